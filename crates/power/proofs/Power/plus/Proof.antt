@@ -1,0 +1,13 @@
+-- `Power::plus` is `plus`: the test before the sum says which side of the least it is.
+-- Assumes nothing.
+use mathlib.Core.Path.{ap}
+use native.Mathlib.Omega.{arith}
+use borrow.Author.Needs.{needs}
+use Rattle.power.specs.Power.{tenths, plus}
+use Rattle.power.proofs.Power.plus.Statement.{statement}
+use Rattle.power.proofs.Power.plus.Tie as tie
+
+pub plus-spec : {M : Type 1} → statement M
+unfolding plus
+plus-spec =
+    tie.close (tie.spec (λ c. search needs) (λ c. search needs) (λ c. ap tenths (omega arith)) (λ c. ap tenths (omega arith)))

@@ -1,0 +1,12 @@
+-- `place` is the product with 1 or with 0.
+-- Assumes nothing.
+use mathlib.Core.Path.{sym}
+use native.Mathlib.Nat.{mul-one, mul-zero, le-refl}
+use borrow.Author.Needs.{zero≤}
+use Rattle.words.proofs.status.place.Statement.{statement}
+use Rattle.words.proofs.status.place.Tie as tie
+
+pub place-spec : {M : Type 1} → statement M
+place-spec =
+    tie.close
+    (tie.spec (λ c. (simp (c .if1 .taken, mul-one), le-refl _)) (λ c. (simp (c .if1 .left, mul-zero), zero≤)))
