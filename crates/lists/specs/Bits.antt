@@ -25,7 +25,7 @@ one false = 0
 
 -- what a flag counts at place k
 abbrev pub place : ℕ → Bool → ℕ
-place k b = 2 ^ k * one b
+place k b = one b * 2 ^ k
 
 -- what two bits choose among four, in the order of their codes
 abbrev pub choose : {X : Type 0} → X → X → X → X → ℕ → X

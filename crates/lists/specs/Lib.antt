@@ -1,2 +1,5 @@
 pub mod Bits
+pub mod Count
+pub mod Places
 pub mod Table
+pub mod Total

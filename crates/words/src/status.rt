@@ -36,7 +36,7 @@ fn condition_code(condition: Condition) -> u16
 
 // A set latch counts as much as its place.
 fn place(set: bool, value: u16) -> u16
-    ensures { λ r. ⌜ (r ≡ value * one set) × (r ≤ value) ⌝ }
+    ensures { λ r. ⌜ (r ≡ one set * value) × (r ≤ value) ⌝ }
 {
     if set { value } else { 0 }
 }

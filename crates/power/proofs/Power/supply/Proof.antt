@@ -9,4 +9,4 @@ use Rattle.power.proofs.Power.supply.Tie as tie
 pub supply-spec : {M : Type 1} → statement M
 unfolding supplyOf
 supply-spec =
-    tie.close (tie.spec (λ c. search needs) (λ c. simp (le-leb _ _ (c .if1 .taken))) (λ c. simp (lt-leb _ _ (c .if1 .left))))
+    tie.close (tie.spec (λ c. search needs) (λ c. search needs) (λ c. simp (le-leb _ _ (c .if1 .taken))) (λ c. simp (lt-leb _ _ (c .if1 .left))))

@@ -1,7 +1,7 @@
 -- `place` is the product with 1 or with 0.
 -- Assumes nothing.
 use mathlib.Core.Path.{sym}
-use native.Mathlib.Nat.{mul-one, mul-zero, le-refl}
+use native.Mathlib.Nat.{one-mul, zero-mul, le-refl}
 use borrow.Author.Needs.{zero≤}
 use Rattle.words.proofs.status.place.Statement.{statement}
 use Rattle.words.proofs.status.place.Tie as tie
@@ -9,4 +9,4 @@ use Rattle.words.proofs.status.place.Tie as tie
 pub place-spec : {M : Type 1} → statement M
 place-spec =
     tie.close
-    (tie.spec (λ c. (simp (c .if1 .taken, mul-one), le-refl _)) (λ c. (simp (c .if1 .left, mul-zero), zero≤)))
+    (tie.spec (λ c. (simp (c .if1 .taken, one-mul), le-refl _)) (λ c. (simp (c .if1 .left, zero-mul), zero≤)))

@@ -1,0 +1,13 @@
+-- `Sum::plus` is `plus`: the test before the sum says which side of the least it is.
+-- Assumes nothing.
+use mathlib.Core.Path.{ap}
+use native.Mathlib.Omega.{arith}
+use borrow.Author.Needs.{needs}
+use Rattle.power.specs.Power.{sumOf, plus}
+use Rattle.power.proofs.Sum.plus.Statement.{statement}
+use Rattle.power.proofs.Sum.plus.Tie as tie
+
+pub plus-spec : {M : Type 1} → statement M
+unfolding plus
+plus-spec =
+    tie.close (tie.spec (λ c. search needs) (λ c. search needs) (λ c. search needs) (λ c. ap sumOf (omega arith)) (λ c. ap sumOf (omega arith)))
