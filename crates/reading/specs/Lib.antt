@@ -1,3 +1,4 @@
 pub mod Class
+pub mod Laws
 pub mod Sample
 pub mod Signature

@@ -1,0 +1,1 @@
+// What is claimed of the core as a whole: definitions and theorems in specs/, and no code.

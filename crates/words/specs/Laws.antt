@@ -1,0 +1,159 @@
+-- Both words both ways: a control word is its three fields, and a status word shows every field that went into it.
+-- Assumes nothing.
+use Prim.Native.Nat.{ℕ, zero, suc, _+_, _*_, _/_, _%_, _^_, _<_}
+use mathlib.Core.Path.{_≡_, refl, sym, _∙_, ap, ap₂}
+use mathlib.Core.Bool.{Bool, true, false}
+use native.Mathlib.Omega.{arith}
+use lib.Dec.{eqb}
+use borrow.Author.Tests.{lt-leb, eq-eqb}
+use Rattle.lists.specs.Bits.{field, bit, above, one, choose}
+use Rattle.words.specs.Control.{enableCode, pairCode, priorityCode, enableOf, pairOf, priorityOf, controlOf, wordOf}
+use Rattle.words.specs.Status.{conditionCode, statusWord}
+use Rattle.words.specs.declared.control.Enable.{Enable}
+use Rattle.words.specs.declared.control.Enable.the-variants.{Disabled, Enabled, Forced, Reserved}
+use Rattle.words.specs.declared.control.Pair.{Pair}
+use Rattle.words.specs.declared.control.Pair.the-variants.{Neither, A, B, Both}
+use Rattle.words.specs.declared.control.Priority.{Priority}
+use Rattle.words.specs.declared.control.Priority.the-variants.{Unknown, Critical, High, Low}
+use Rattle.words.specs.declared.control.Control.{Control}
+use Rattle.words.specs.declared.status.Latches.{Latches}
+use Rattle.words.specs.declared.status.Condition.{Condition}
+use Rattle.words.specs.declared.status.Condition.the-variants.{Disabled as Off, Searching, Delivering, Testing, Faulty}
+
+enable-small : (e : Enable) → enableCode e < 4
+enable-small Disabled = omega arith
+enable-small Enabled = omega arith
+enable-small Forced = omega arith
+enable-small Reserved = omega arith
+
+pair-small : (p : Pair) → pairCode p < 4
+pair-small Neither = omega arith
+pair-small A = omega arith
+pair-small B = omega arith
+pair-small Both = omega arith
+
+priority-small : (p : Priority) → priorityCode p < 4
+priority-small Unknown = omega arith
+priority-small Critical = omega arith
+priority-small High = omega arith
+priority-small Low = omega arith
+
+-- the code of each field, where the word has it
+enable-field : (c : Control) → field 0 2 (wordOf c) ≡ enableCode (c .enable)
+unfolding wordOf field
+enable-field c = omega (arith, enable-small (c .enable))
+
+pair-field : (c : Control) → field 2 2 (wordOf c) ≡ pairCode (c .pair)
+unfolding wordOf field
+pair-field c = omega (arith, enable-small (c .enable), pair-small (c .pair))
+
+priority-field : (c : Control) → field 4 2 (wordOf c) ≡ priorityCode (c .priority)
+unfolding wordOf field
+priority-field c = omega (arith, enable-small (c .enable), pair-small (c .pair), priority-small (c .priority))
+
+-- each code chooses its own case
+enable-chosen : (e : Enable) → choose Disabled Enabled Forced Reserved (enableCode e) ≡ e
+enable-chosen Disabled = refl
+enable-chosen Enabled = refl
+enable-chosen Forced = refl
+enable-chosen Reserved = refl
+
+pair-chosen : (p : Pair) → choose Neither A B Both (pairCode p) ≡ p
+pair-chosen Neither = refl
+pair-chosen A = refl
+pair-chosen B = refl
+pair-chosen Both = refl
+
+priority-chosen : (p : Priority) → choose Unknown Critical High Low (priorityCode p) ≡ p
+priority-chosen Unknown = refl
+priority-chosen Critical = refl
+priority-chosen High = refl
+priority-chosen Low = refl
+
+enable-back : (c : Control) → enableOf (wordOf c) ≡ c .enable
+unfolding enableOf
+enable-back c = ap (choose Disabled Enabled Forced Reserved) (enable-field c) ∙ enable-chosen (c .enable)
+
+pair-back : (c : Control) → pairOf (wordOf c) ≡ c .pair
+unfolding pairOf
+pair-back c = ap (choose Neither A B Both) (pair-field c) ∙ pair-chosen (c .pair)
+
+priority-back : (c : Control) → priorityOf (wordOf c) ≡ c .priority
+unfolding priorityOf
+priority-back c = ap (choose Unknown Critical High Low) (priority-field c) ∙ priority-chosen (c .priority)
+
+-- three fields written as a word read back as they were
+pub fields-read-back : (c : Control) → controlOf (wordOf c) ≡ c
+unfolding controlOf
+fields-read-back c = λ i. record { enable = enable-back c i; pair = pair-back c i; priority = priority-back c i }
+
+-- what two bits choose has their code
+chosen-code : {X : Type 0} (code : X → ℕ) (x0 x1 x2 x3 : X) → code x0 ≡ 0 → code x1 ≡ 1 → code x2 ≡ 2 → code x3 ≡ 3 → (n : ℕ) → n < 4 → code (choose x0 x1 x2 x3 n) ≡ n
+chosen-code code x0 x1 x2 x3 p q r s zero h = p
+chosen-code code x0 x1 x2 x3 p q r s (suc zero) h = q
+chosen-code code x0 x1 x2 x3 p q r s (suc (suc zero)) h = r
+chosen-code code x0 x1 x2 x3 p q r s (suc (suc (suc zero))) h = s
+chosen-code code x0 x1 x2 x3 p q r s (suc (suc (suc (suc n)))) h = absurd (omega arith)
+
+-- a word with nothing above bit 5 is the word of its three fields
+pub word-reads-back : (word : ℕ) → word < 64 → wordOf (controlOf word) ≡ word
+unfolding wordOf controlOf enableOf pairOf priorityOf field
+word-reads-back w h =
+    omega (
+      arith,
+      chosen-code enableCode Disabled Enabled Forced Reserved refl refl refl refl (w / 1 % 4) (omega arith),
+      chosen-code pairCode Neither A B Both refl refl refl refl (w / 4 % 4) (omega arith),
+      chosen-code priorityCode Unknown Critical High Low refl refl refl refl (w / 16 % 4) (omega arith),
+    )
+
+condition-small : (c : Condition) → conditionCode c < 8
+condition-small Off = omega arith
+condition-small Searching = omega arith
+condition-small Delivering = omega arith
+condition-small Testing = omega arith
+condition-small Faulty = omega arith
+
+one-small : (b : Bool) → one b < 2
+one-small true = omega arith
+one-small false = omega arith
+
+flag : (b : Bool) (n : ℕ) → n ≡ one b → eqb n 1 ≡ b
+flag true n e = rw e
+flag false n e = rw e
+
+-- a status word shows each latch, the class and the condition, and nothing else
+pub record Shows (l : Latches) (class : ℕ) (c : Condition) (word : ℕ) : Type 0 where
+  pub high : above 13 word ≡ false
+  pub denied : bit 12 word ≡ l .denied
+  pub valid : bit 11 word ≡ l .valid
+  pub invalid : bit 10 word ≡ l .invalid
+  pub short : bit 9 word ≡ l .short
+  pub overload : bit 8 word ≡ l .overload
+  pub absent : bit 7 word ≡ l .absent
+  pub class-field : field 4 3 word ≡ class
+  pub condition : field 1 3 word ≡ conditionCode c
+  pub lowest : bit 0 word ≡ true
+
+pub status-shows : (l : Latches) (class : ℕ) (c : Condition) → class < 8 → Shows l class c (statusWord l class c)
+unfolding statusWord bit field above
+status-shows l k c h =
+    let a = one-small (l .denied) in
+    let b = one-small (l .valid) in
+    let d = one-small (l .invalid) in
+    let e = one-small (l .short) in
+    let f = one-small (l .overload) in
+    let g = one-small (l .absent) in
+    let s = condition-small c in
+    let w = statusWord l k c in
+    record {
+      high = lt-leb 8192 w (omega arith);
+      denied = flag (l .denied) (w / 4096 % 2) (omega arith);
+      valid = flag (l .valid) (w / 2048 % 2) (omega arith);
+      invalid = flag (l .invalid) (w / 1024 % 2) (omega arith);
+      short = flag (l .short) (w / 512 % 2) (omega arith);
+      overload = flag (l .overload) (w / 256 % 2) (omega arith);
+      absent = flag (l .absent) (w / 128 % 2) (omega arith);
+      class-field = omega arith;
+      condition = omega arith;
+      lowest = eq-eqb (w / 1 % 2) 1 (omega arith);
+    }
