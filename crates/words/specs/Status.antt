@@ -1,9 +1,24 @@
 -- Document 01, "Words on the management side": the status word.
 use Prim.Native.Nat.{ℕ, _+_, _*_, _%_}
+use mathlib.Core.Bool.{false, _||_}
 use Rattle.lists.specs.Bits.{place}
 use Rattle.words.specs.declared.status.Latches.{Latches}
 use Rattle.words.specs.declared.status.Condition.{Condition}
 use Rattle.words.specs.declared.status.Condition.the-variants.{Disabled, Searching, Delivering, Testing, Faulty}
+
+abbrev pub noLatches : Latches
+noLatches = record { denied = false; valid = false; invalid = false; short = false; overload = false; absent = false }
+
+-- what is latched is added to what was
+unfoldable pub join : Latches → Latches → Latches
+join l m =
+    record
+      { denied = l .denied || m .denied
+      ; valid = l .valid || m .valid
+      ; invalid = l .invalid || m .invalid
+      ; short = l .short || m .short
+      ; overload = l .overload || m .overload
+      ; absent = l .absent || m .absent }
 
 -- "Condition: 0 in DISABLED, 1 in IDLE, DETECTING, BACKOFF, CLASSIFYING, 2 in POWER_UP, POWER_ON, 3 in TEST_MODE, 4 in ERROR_DELAY, TEST_ERROR."
 abbrev pub conditionCode : Condition → ℕ

@@ -2,7 +2,7 @@
 ghost use mathlib.Core.Path.{_≡_};
 ghost use Prim.Native.Nat.{_*_, _<_, _≤_};
 ghost use Rattle.lists.specs.Bits.{one};
-ghost use Rattle.words.specs.Status.{conditionCode, statusWord};
+ghost use Rattle.words.specs.Status.{join, conditionCode, statusWord};
 
 pub struct Latches {
     pub denied: bool,
@@ -11,6 +11,31 @@ pub struct Latches {
     pub short: bool,
     pub overload: bool,
     pub absent: bool,
+}
+
+impl Latches {
+    pub const NONE: Latches = Latches {
+        denied: false,
+        valid: false,
+        invalid: false,
+        short: false,
+        overload: false,
+        absent: false,
+    };
+
+    // A latch stays set until a status read clears it: what is latched is added to what was.
+    pub fn join(self, more: Latches) -> Latches
+        ensures { λ r. ⌜ r ≡ join self more ⌝ }
+    {
+        Latches {
+            denied: self.denied | more.denied,
+            valid: self.valid | more.valid,
+            invalid: self.invalid | more.invalid,
+            short: self.short | more.short,
+            overload: self.overload | more.overload,
+            absent: self.absent | more.absent,
+        }
+    }
 }
 
 // What a port is doing, as the status word tells it.
