@@ -48,6 +48,14 @@ pub plus-exact : (n : ℕ) (p : Power) → n + p .0 < 2 ^ 32 → plus (sumOf n) 
 unfolding plus
 plus-exact n p h = ap sumOf (omega arith)
 
+-- two sums in one, with the same end
+unfoldable pub join : Sum → Sum → Sum
+join a b = sumOf (min (a .0 + b .0) 4294967295)
+
+pub join-exact : (m n : ℕ) → m + n < 2 ^ 32 → join (sumOf m) (sumOf n) ≡ sumOf (m + n)
+unfolding join
+join-exact m n h = ap sumOf (omega arith)
+
 -- a sum of demands is at most a supply
 unfoldable pub fits : Sum → Power → Bool
 fits s supply = leb (s .0) (supply .0)

@@ -1,6 +1,6 @@
 // Power is a kind of its own, counted in tenths of a watt.
 ghost use mathlib.Core.Path.{_≡_};
-ghost use Rattle.power.specs.Power.{atMost, same, supplyOf, plus, fits};
+ghost use Rattle.power.specs.Power.{atMost, same, supplyOf, plus, join, fits};
 
 pub struct Power(pub u16);
 
@@ -55,6 +55,19 @@ impl Sum {
     {
         let sum = self.0;
         let more = power.0 as u32;
+        if sum <= 4_294_967_295 - more {
+            Sum(sum + more)
+        } else {
+            Sum(4_294_967_295)
+        }
+    }
+
+    // Two sums in one, with the same end.
+    pub fn join(self, other: Sum) -> Sum
+        ensures { λ r. ⌜ r ≡ join self other ⌝ }
+    {
+        let sum = self.0;
+        let more = other.0;
         if sum <= 4_294_967_295 - more {
             Sum(sum + more)
         } else {

@@ -12,13 +12,14 @@ noLatches = record { denied = false; valid = false; invalid = false; short = fal
 -- what is latched is added to what was
 unfoldable pub join : Latches → Latches → Latches
 join l m =
-    record
-      { denied = l .denied || m .denied
-      ; valid = l .valid || m .valid
-      ; invalid = l .invalid || m .invalid
-      ; short = l .short || m .short
-      ; overload = l .overload || m .overload
-      ; absent = l .absent || m .absent }
+    record {
+      denied = l .denied || m .denied;
+      valid = l .valid || m .valid;
+      invalid = l .invalid || m .invalid;
+      short = l .short || m .short;
+      overload = l .overload || m .overload;
+      absent = l .absent || m .absent;
+    }
 
 -- "Condition: 0 in DISABLED, 1 in IDLE, DETECTING, BACKOFF, CLASSIFYING, 2 in POWER_UP, POWER_ON, 3 in TEST_MODE, 4 in ERROR_DELAY, TEST_ERROR."
 abbrev pub conditionCode : Condition → ℕ

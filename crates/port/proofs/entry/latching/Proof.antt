@@ -1,0 +1,13 @@
+-- `latching` is `latching`: what was latched before is joined by a call.
+-- Assumes nothing.
+use borrow.Author.Needs.{needs}
+use Rattle.port.specs.Form.{latching}
+use Rattle.port.proofs.entry.latching.Statement.{statement}
+use Rattle.port.proofs.entry.latching.Tie as tie
+
+pub latching-spec : {M : Type 1} → statement M
+latching-spec =
+    tie.close
+    (tie.spec
+    (λ c κs. search needs)
+    (λ c. simp (c .before .before .join .ensures)))

@@ -1,0 +1,295 @@
+// The rule of each state of the diagram. A rule advances the state's counters first, and then compares.
+use crate::entry::asking;
+use crate::entry::during;
+use crate::entry::enter_backoff;
+use crate::entry::enter_classifying;
+use crate::entry::enter_detecting;
+use crate::entry::enter_error_delay;
+use crate::entry::enter_idle;
+use crate::entry::enter_power_on;
+use crate::entry::enter_test_error;
+use crate::entry::latching;
+use crate::entry::quietly;
+use crate::entry::up;
+use crate::form::Classing;
+use crate::form::Counts;
+use crate::form::Detection;
+use crate::form::Moved;
+use crate::form::Port;
+use crate::form::Reading;
+use power::Power;
+use words::control::Enable;
+use words::control::Pair;
+use words::control::enable_of;
+use words::control::pair_of;
+use words::status::Latches;
+ghost use mathlib.Core.Path.{_≡_};
+ghost use Rattle.port.specs.Form.{latchValid, latchInvalid, latchShort, latchOverload, latchAbsent};
+ghost use Rattle.port.specs.Rules.{isOn, isForced, isB, idle, detected, detecting, backoff, errorDelay, classed, classifying, stressed, watched, risen, powerUp, powerOn, testMode, testError};
+
+const VALID: Latches = Latches {
+    valid: true,
+    ..Latches::NONE
+};
+
+const INVALID: Latches = Latches {
+    invalid: true,
+    ..Latches::NONE
+};
+
+const SHORT: Latches = Latches {
+    short: true,
+    ..Latches::NONE
+};
+
+const OVERLOAD: Latches = Latches {
+    overload: true,
+    ..Latches::NONE
+};
+
+const ABSENT: Latches = Latches {
+    absent: true,
+    ..Latches::NONE
+};
+
+fn is_on(enable: Enable) -> bool
+    ensures { λ r. ⌜ r ≡ isOn enable ⌝ }
+{
+    match enable {
+        Enable::Disabled => false,
+        Enable::Enabled => true,
+        Enable::Forced => false,
+        Enable::Reserved => false,
+    }
+}
+
+// Both bits count: 11 is reserved, and does not force power.
+pub fn is_forced(enable: Enable) -> bool
+    ensures { λ r. ⌜ r ≡ isForced enable ⌝ }
+{
+    match enable {
+        Enable::Disabled => false,
+        Enable::Enabled => false,
+        Enable::Forced => true,
+        Enable::Reserved => false,
+    }
+}
+
+fn is_b(pair: Pair) -> bool
+    ensures { λ r. ⌜ r ≡ isB pair ⌝ }
+{
+    match pair {
+        Pair::Neither => false,
+        Pair::A => false,
+        Pair::B => true,
+        Pair::Both => false,
+    }
+}
+
+pub fn idle(claim: Power, port: Port) -> Moved
+    ensures { λ r. ⌜ r ≡ idle claim port ⌝ }
+{
+    let enable = enable_of(port.control);
+    if is_on(enable) {
+        return quietly(enter_detecting(Port { class: 0, ..port }));
+    }
+    if is_forced(enable) {
+        return asking(Port {
+            demand: claim,
+            ..port
+        });
+    }
+    quietly(port)
+}
+
+fn detected(detection: Detection, port: Port) -> Moved
+    ensures { λ r. ⌜ r ≡ detected detection port ⌝ }
+{
+    match detection {
+        Detection::NotDone => quietly(port),
+        Detection::Valid => latching(VALID, enter_classifying(port)),
+        Detection::Invalid => {
+            if is_b(pair_of(port.control)) {
+                latching(INVALID, enter_backoff(port))
+            } else {
+                latching(INVALID, enter_idle(port))
+            }
+        }
+        Detection::Open => latching(INVALID, enter_idle(port)),
+    }
+}
+
+pub fn detecting(port: Port, reading: Reading) -> Moved
+    ensures { λ r. ⌜ r ≡ detecting port reading ⌝ }
+{
+    let before = port.counts;
+    let ticks = up(before.detection);
+    let counts = Counts {
+        detection: ticks,
+        ..before
+    };
+    let after = Port { counts, ..port };
+    if 500 <= ticks {
+        return quietly(enter_idle(after));
+    }
+    let detection = reading.detection;
+    detected(detection, after)
+}
+
+pub fn backoff(port: Port) -> Moved
+    ensures { λ r. ⌜ r ≡ backoff port ⌝ }
+{
+    let before = port.counts;
+    let ticks = up(before.backoff);
+    let counts = Counts {
+        backoff: ticks,
+        ..before
+    };
+    let after = Port { counts, ..port };
+    if 2_000 <= ticks {
+        return quietly(enter_idle(after));
+    }
+    quietly(after)
+}
+
+pub fn error_delay(port: Port) -> Moved
+    ensures { λ r. ⌜ r ≡ errorDelay port ⌝ }
+{
+    let before = port.counts;
+    let ticks = up(before.error_delay);
+    let counts = Counts {
+        error_delay: ticks,
+        ..before
+    };
+    let after = Port { counts, ..port };
+    if 750 <= ticks {
+        return quietly(enter_idle(after));
+    }
+    quietly(after)
+}
+
+fn classed(class: Classing, port: Port) -> Moved
+    ensures { λ r. ⌜ r ≡ classed class port ⌝ }
+{
+    match class {
+        Classing::NotDone => quietly(port),
+        Classing::Failed => quietly(enter_idle(port)),
+        Classing::Is(k, d) => asking(Port {
+            class: k,
+            demand: d,
+            ..port
+        }),
+    }
+}
+
+pub fn classifying(port: Port, reading: Reading) -> Moved
+    ensures { λ r. ⌜ r ≡ classifying port reading ⌝ }
+{
+    let before = port.counts;
+    let ticks = up(before.power_on);
+    let counts = Counts {
+        power_on: ticks,
+        ..before
+    };
+    let after = Port { counts, ..port };
+    if 400 <= ticks {
+        return quietly(enter_idle(after));
+    }
+    let class = reading.class;
+    classed(class, after)
+}
+
+fn stressed(reading: Reading, counts: Counts) -> Counts
+    ensures { λ r. ⌜ r ≡ stressed reading counts ⌝ }
+{
+    let limiting = during(reading.limiting, counts.limiting);
+    let overload = during(reading.overload, counts.overload);
+    Counts {
+        limiting,
+        overload,
+        ..counts
+    }
+}
+
+// Limiting is looked at before overload.
+fn watched(port: Port, fault: Port, sound: Moved) -> Moved
+    ensures { λ r. ⌜ r ≡ watched port fault sound ⌝ }
+{
+    if 60 <= port.counts.limiting {
+        return latching(SHORT, fault);
+    }
+    if 60 <= port.counts.overload {
+        return latching(OVERLOAD, fault);
+    }
+    sound
+}
+
+// At 400 the power-on counter goes before the settled flag.
+fn risen(settled: bool, port: Port) -> Port
+    ensures { λ r. ⌜ r ≡ risen settled port ⌝ }
+{
+    if 400 <= port.counts.power_on {
+        return enter_idle(port);
+    }
+    if settled {
+        return enter_power_on(port);
+    }
+    port
+}
+
+pub fn power_up(port: Port, reading: Reading) -> Moved
+    ensures { λ r. ⌜ r ≡ powerUp port reading ⌝ }
+{
+    let before = port.counts;
+    let ticks = up(before.power_on);
+    let stress = stressed(reading, before);
+    let counts = Counts {
+        power_on: ticks,
+        ..stress
+    };
+    let after = Port { counts, ..port };
+    watched(
+        after,
+        enter_error_delay(after),
+        quietly(risen(reading.settled, after)),
+    )
+}
+
+pub fn power_on(port: Port, reading: Reading) -> Moved
+    ensures { λ r. ⌜ r ≡ powerOn port reading ⌝ }
+{
+    let before = port.counts;
+    let ticks = during(!reading.load, before.no_load);
+    let stress = stressed(reading, before);
+    let counts = Counts {
+        no_load: ticks,
+        ..stress
+    };
+    let after = Port { counts, ..port };
+    let fault = enter_error_delay(after);
+    if 320 <= ticks {
+        return watched(after, fault, latching(ABSENT, enter_idle(after)));
+    }
+    watched(after, fault, quietly(after))
+}
+
+pub fn test_mode(port: Port, reading: Reading) -> Moved
+    ensures { λ r. ⌜ r ≡ testMode port reading ⌝ }
+{
+    let before = port.counts;
+    let counts = stressed(reading, before);
+    let after = Port { counts, ..port };
+    if is_forced(enable_of(port.control)) {
+        return watched(after, enter_test_error(after), quietly(after));
+    }
+    quietly(enter_idle(after))
+}
+
+pub fn test_error(port: Port) -> Moved
+    ensures { λ r. ⌜ r ≡ testError port ⌝ }
+{
+    if is_forced(enable_of(port.control)) {
+        return quietly(port);
+    }
+    quietly(enter_idle(port))
+}

@@ -1,0 +1,140 @@
+// What the sharing of the supply asks of a port, and what it does to it.
+use crate::entry::enter_idle;
+use crate::entry::enter_power_up;
+use crate::entry::enter_test_error;
+use crate::entry::enter_test_mode;
+use crate::entry::latching;
+use crate::form::Moved;
+use crate::form::Port;
+use crate::form::State;
+use words::control::Priority;
+use words::control::priority_of;
+use words::status::Latches;
+ghost use mathlib.Core.Path.{_≡_};
+ghost use Prim.Native.Nat.{_<_};
+ghost use mathlib.Core.Bool.{_&&_};
+ghost use Rattle.port.specs.Settle.{closed, urgency, rank, granted, inTest, shed, settled};
+
+const DENIED: Latches = Latches {
+    denied: true,
+    ..Latches::NONE
+};
+
+// Carries 48 volts.
+pub fn is_closed(state: State) -> bool
+    ensures { λ r. ⌜ r ≡ closed state ⌝ }
+{
+    match state {
+        State::Disabled => false,
+        State::Idle => false,
+        State::Detecting => false,
+        State::Backoff => false,
+        State::Classifying => false,
+        State::PowerUp => true,
+        State::PowerOn => true,
+        State::ErrorDelay => false,
+        State::TestMode => true,
+        State::TestError => false,
+    }
+}
+
+// The code of a priority is not its rank: 01 is the highest, and 00 is the lowest with 11.
+fn urgency_of(priority: Priority) -> u8
+    ensures { λ r. ⌜ (r ≡ urgency priority) × (r < 3) ⌝ }
+{
+    match priority {
+        Priority::Critical => 0,
+        Priority::High => 1,
+        Priority::Low => 2,
+        Priority::Unknown => 2,
+    }
+}
+
+// Closed before the tick, and still.
+fn holds(before: State, now: State) -> bool
+    ensures { λ r. ⌜ r ≡ (closed before && closed now) ⌝ }
+{
+    if is_closed(before) {
+        return is_closed(now);
+    }
+    false
+}
+
+// The rank of a port's claim, 0 the first; 6 for a port that claims nothing.
+pub fn rank_of(before: State, moved: Moved) -> u8
+    ensures { λ r. ⌜ r ≡ rank before moved ⌝ }
+{
+    let port = moved.port;
+    let urgency = urgency_of(priority_of(port.control));
+    let now = port.state;
+    if holds(before, now) {
+        return urgency;
+    }
+    if moved.asks {
+        return 3 + urgency;
+    }
+    6
+}
+
+fn granted_in(state: State, port: Port) -> Port
+    ensures { λ r. ⌜ r ≡ granted state port ⌝ }
+{
+    match state {
+        State::Disabled => port,
+        State::Idle => enter_test_mode(port),
+        State::Detecting => port,
+        State::Backoff => port,
+        State::Classifying => enter_power_up(port),
+        State::PowerUp => port,
+        State::PowerOn => port,
+        State::ErrorDelay => port,
+        State::TestMode => port,
+        State::TestError => port,
+    }
+}
+
+fn is_in_test(state: State) -> bool
+    ensures { λ r. ⌜ r ≡ inTest state ⌝ }
+{
+    match state {
+        State::Disabled => false,
+        State::Idle => false,
+        State::Detecting => false,
+        State::Backoff => false,
+        State::Classifying => false,
+        State::PowerUp => false,
+        State::PowerOn => false,
+        State::ErrorDelay => false,
+        State::TestMode => true,
+        State::TestError => false,
+    }
+}
+
+fn shed_port(port: Port) -> Moved
+    ensures { λ r. ⌜ r ≡ shed port ⌝ }
+{
+    let state = port.state;
+    if is_in_test(state) {
+        return latching(DENIED, enter_test_error(port));
+    }
+    latching(DENIED, enter_idle(port))
+}
+
+// The port after the sharing, by the rank of its claim and whether that was kept.
+pub fn settled_port(rank: u8, kept: bool, moved: Moved) -> Port
+    ensures { λ r. ⌜ r ≡ settled rank kept moved ⌝ }
+{
+    let port = moved.port;
+    if 6 <= rank {
+        return port;
+    }
+    if !kept {
+        let out = shed_port(port);
+        return out.port;
+    }
+    if moved.asks {
+        let state = port.state;
+        return granted_in(state, port);
+    }
+    port
+}

@@ -1,0 +1,130 @@
+// The sharing of one supply. It knows claims only, a rank and a demand for each place, and no port.
+use power::Power;
+use power::Sum;
+ghost use mathlib.Core.Path.{_≡_};
+ghost use Prim.Native.Nat.{_<_, _^_};
+ghost use Rattle.lists.specs.Places.{tabulate};
+ghost use Rattle.power.specs.Power.{sumOf};
+ghost use Rattle.share.specs.Share.{claims as claim, keeps, claimedSum};
+ghost use Rattle.share.specs.Given.{rankOf, demandOf};
+ghost use Rattle.share.specs.Passes.{Small, added, within, slotOf, ofSlot, joined};
+
+// Ports that were closed before those that ask, and within each critical, high, then low and unknown alike.
+pub const RANKS: u8 = 6;
+
+// For each place its rank, of which 0 comes first, and its demand. A place whose rank is none of the ranks claims nothing.
+pub struct Claims {
+    pub ranks: [u8; 48],
+    pub demands: [Power; 48],
+}
+
+// A claim's demand is added, and no other.
+fn with_claim(sum: Sum, rank: u8, demand: Power) -> Sum
+    ensures { λ r. ⌜ (r ≡ added sum rank demand) × (demand .0 < 2 ^ 16) ⌝ }
+{
+    if rank < RANKS {
+        return sum.plus(demand);
+    }
+    sum
+}
+
+fn claimed(claims: Claims) -> Sum
+    ensures { λ r. ⌜ (r ≡ sumOf (claimedSum 48 (rankOf claims) (demandOf claims))) × Small (demandOf claims) ⌝ }
+{
+    let mut sum = Sum::ZERO;
+    for p in 0..48 {
+        let rank = claims.ranks[p];
+        let demand = claims.demands[p];
+        sum = with_claim(sum, rank, demand);
+    }
+    sum
+}
+
+// Where all claims fit, a place is kept exactly if it claims.
+fn claimants(claims: Claims) -> [bool; 48]
+    ensures { λ r. ⌜ r ≡ tabulate 48 (claim (rankOf claims)) ⌝ }
+{
+    let mut kept = [false; 48];
+    for p in 0..48 {
+        let rank = claims.ranks[p];
+        kept[p] = rank < RANKS;
+    }
+    kept
+}
+
+// The place of a rank's sum among seven: a sum for each rank, and the last for what is no claim, which nobody asks for.
+fn slot(rank: u8) -> usize
+    ensures { λ r. ⌜ (r ≡ slotOf rank) × (r < 7) ⌝ }
+{
+    if rank < RANKS {
+        return rank as usize;
+    }
+    RANKS as usize
+}
+
+fn rank_sums(claims: Claims) -> [Sum; 7]
+    requires { ⌜ Small (demandOf claims) ⌝ }
+    ensures { λ r. ⌜ r ≡ tabulate 7 (λ k. sumOf (ofSlot 48 (rankOf claims) (demandOf claims) k)) ⌝ }
+{
+    let mut sums = [Sum::ZERO; 7];
+    for p in 0..48 {
+        let rank = claims.ranks[p];
+        let demand = claims.demands[p];
+        let k = slot(rank);
+        let sum = sums[k];
+        sums[k] = sum.plus(demand);
+    }
+    sums
+}
+
+// What is claimed before each rank: the sums of the lower ranks in one.
+fn starts(sums: [Sum; 7]) -> [Sum; 7]
+    ensures { λ r. ⌜ r ≡ tabulate 7 (joined sums) ⌝ }
+{
+    let mut before = [Sum::ZERO; 7];
+    let mut sum = Sum::ZERO;
+    for k in 0..7 {
+        before[k] = sum;
+        let more = sums[k];
+        sum = sum.join(more);
+    }
+    before
+}
+
+fn within(sum: Sum, rank: u8, supply: Power) -> bool
+    ensures { λ r. ⌜ r ≡ within sum rank supply ⌝ }
+{
+    if rank < RANKS {
+        return sum.fits(supply);
+    }
+    false
+}
+
+// A shed claim's demand stays in the sum of its rank, so that no smaller claim after it is kept.
+fn in_turn(claims: Claims, supply: Power) -> [bool; 48]
+    requires { ⌜ Small (demandOf claims) ⌝ }
+    ensures { λ r. ⌜ r ≡ tabulate 48 (keeps 48 (rankOf claims) (demandOf claims) (supply .0)) ⌝ }
+{
+    let mut sums = starts(rank_sums(claims));
+    let mut kept = [false; 48];
+    for p in 0..48 {
+        let rank = claims.ranks[p];
+        let demand = claims.demands[p];
+        let k = slot(rank);
+        let before = sums[k];
+        let sum = before.plus(demand);
+        sums[k] = sum;
+        kept[p] = within(sum, rank, supply);
+    }
+    kept
+}
+
+// The places that keep their claim. Where all claims fit, nothing has to be ranked.
+pub fn kept(claims: Claims, supply: Power) -> [bool; 48]
+    ensures { λ r. ⌜ r ≡ tabulate 48 (keeps 48 (rankOf claims) (demandOf claims) (supply .0)) ⌝ }
+{
+    if claimed(claims).fits(supply) {
+        return claimants(claims);
+    }
+    in_turn(claims, supply)
+}
