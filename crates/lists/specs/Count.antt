@@ -4,13 +4,13 @@ use mathlib.Core.Path.{_≡_, refl, sym, _∙_, ap, ap₂}
 use mathlib.Core.Bool.{Bool, true, false, _||_, _&&_, false≢true}
 use mathlib.Core.Logic.{⊎-elim}
 use Prim.Native.Nat.{ℕ, zero, suc, _+_, _-_, _*_, _/_, _%_, _^_, _≤_, _<_}
-use native.Mathlib.Nat.{add-comm, mul-assoc, pow-zero, le-of-suc-le-suc, eq-or-lt-of-le, not-suc-le-zero, sub-add-cancel, add-mul-mod-self-right, div-eq-of-lt, lt-of-lt-of-le, le-refl}
+use native.Mathlib.Nat.{add-comm, mul-assoc, pow-zero, le-of-suc-le-suc, eq-or-lt-of-le, not-suc-le-zero, sub-add-cancel, add-mul-mod-self-right, div-eq-of-lt, lt-of-lt-of-le, le-refl, zero-mul}
 use native.Mathlib.Omega.{arith}
 use lib.Dec.{eqb}
 use lib.Pow.{pow-add, pow-mono, add-lt-pow, high, field}
 use lib.Count.{ones, ones-cat}
 use Rattle.lists.specs.Bits.{bit, one, place}
-use Rattle.lists.specs.Total.{total, total-cong, total-plus}
+use Rattle.lists.specs.Total.{total, total-next, total-cong, total-plus, total-less}
 
 -- how many of the places below n pass the test f
 unfoldable pub count : ℕ → (ℕ → Bool) → ℕ
@@ -89,3 +89,13 @@ count-either n f g h =
     each true false e = refl
     each false true e = refl
     each false false e = refl
+
+-- one place more, as a loop counts
+pub mask-next : (n : ℕ) (f : ℕ → Bool) → mask (n + 1) f ≡ mask n f + place n (f n)
+unfolding mask
+mask-next n f = total-next n (λ p. place p (f p))
+
+-- places that fail the test may be left out
+pub mask-less : (m n : ℕ) (f : ℕ → Bool) → m ≤ n → ((p : ℕ) → m ≤ p → f p ≡ false) → mask n f ≡ mask m f
+unfolding mask
+mask-less m n f h z = total-less m n (λ p. place p (f p)) h (λ p l. ap (place p) (z p l) ∙ zero-mul (2 ^ p))

@@ -1,5 +1,6 @@
 pub mod Bits
 pub mod Count
+pub mod Every
 pub mod Places
 pub mod Table
 pub mod Total

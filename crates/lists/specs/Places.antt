@@ -8,7 +8,7 @@ use Prim.Native.Nat.{ℕ, zero, suc, _+_, _≤_, _<_}
 use native.Mathlib.Nat.{le-of-suc-le-suc, not-suc-le-zero, eq-or-lt-of-le}
 use native.Mathlib.Omega.{arith}
 use lib.Dec.{ltb}
-use lib.ListN.{length, getD, set, length-set}
+use lib.ListN.{length, getD, set, replicate, length-set, length-replicate, getD-replicate}
 use lib.Seq.{ext-getD, getD-set-same, getD-set-other}
 use borrow.Author.Tests.{lt-ltb, le-ltb, ltb-true, ltb-false}
 
@@ -83,3 +83,10 @@ module _ {A : Type 0} where
         (λ (l : p < n). simp (lt-ltb p n l) (F .done p l))
         (λ (g : n ≤ p). simp (le-ltb p n g) (F .left p g))
         (side p n))
+
+  -- filled below n, over a list of one value
+  pub filled-over : (d : A) (f : ℕ → A) (v : A) (m n : ℕ) (now : List A) → Filled d f (replicate m v) n now → now ≡ tabulate m (λ p. cond (ltb p n) (f p) v)
+  filled-over d f v m n now F =
+      filled-below d f (replicate m v) m n now (length-replicate m v) F
+      ∙ tabulate-cong m (λ p. cond (ltb p n) (f p) (getD (replicate m v) p d)) (λ p. cond (ltb p n) (f p) v)
+      (λ p l. ap (cond (ltb p n) (f p)) (getD-replicate m p v d l))

@@ -1,6 +1,6 @@
 -- Sums over the places below n: the law of each is stated once, over any function of the place.
 -- Assumes nothing.
-use mathlib.Core.Path.{_≡_, refl, _∙_, ap, ap₂}
+use mathlib.Core.Path.{_≡_, refl, sym, _∙_, ap, ap₂}
 use mathlib.Core.Bool.{Bool, true, false, cond}
 use Prim.Native.Nat.{ℕ, zero, suc, _+_, _*_, _≤_, _<_, zero-le}
 use native.Mathlib.Nat.{le-refl, le-trans, le-antisymm, add-le-add, le-add-right, le-add-left, zero-mul, suc-mul, eq-or-lt-of-le, le-of-suc-le-suc, not-suc-le-zero}
@@ -59,3 +59,13 @@ total-fewer m (suc n) f h =
 pub total-one : (n : ℕ) (f : ℕ → ℕ) (p : ℕ) → p < n → f p ≤ total n f
 unfolding total
 total-one n f p l = le-trans (le-add-left (f p) (total p f)) (total-fewer (suc p) n f l)
+
+-- places that count nothing may be left out
+pub total-less : (m n : ℕ) (f : ℕ → ℕ) → m ≤ n → ((p : ℕ) → m ≤ p → f p ≡ 0) → total n f ≡ total m f
+unfolding total
+total-less m zero f h z = ap (λ (k : ℕ). total k f) (sym (le-antisymm h zero-le))
+total-less m (suc n) f h z =
+    ⊎-elim
+    (λ (e : m ≡ suc n). ap (λ (k : ℕ). total k f) (sym e))
+    (λ (l : m < suc n). omega (arith, total-less m n f (le-of-suc-le-suc l) z, z n (le-of-suc-le-suc l)))
+    (eq-or-lt-of-le h)

@@ -8,17 +8,10 @@ use native.Mathlib.Nat.{le-refl, le-trans, lt-of-lt-of-le, add-le-add, add-zero,
 use native.Mathlib.Omega.{arith}
 use lib.Dec.{ltb, eqb}
 use borrow.Author.Tests.{lt-ltb, le-ltb, le-leb, eq-eqb, ne-eqb, ltb-true, leb-true, leb-false, eqb-true}
+use Rattle.lists.specs.Table.{and-left, and-right}
 use Rattle.lists.specs.Total.{total, total-cong, total-mono, total-zero, total-plus}
 use Rattle.lists.specs.Places.{side}
 use Rattle.share.specs.Share.{claims, before, met, sumWhere, down, keeps, keptSum, claimedSum}
-
-and-left : (a b : Bool) → (a && b) ≡ true → a ≡ true
-and-left true b e = refl
-and-left false b e = e
-
-and-right : (a b : Bool) → (a && b) ≡ true → b ≡ true
-and-right true b e = e
-and-right false b e = absurd (false≢true e)
 
 and-both : (a b : Bool) → a ≡ true → b ≡ true → (a && b) ≡ true
 and-both a b e f = simp (e, f)

@@ -1,0 +1,70 @@
+-- Document 01's whole case and its empty PDU, shown of the definitions themselves.
+-- Assumes nothing.
+use mathlib.Core.Path.{_≡_, refl}
+use mathlib.Core.List.{List, [], _∷_, _++_, map}
+use Prim.Native.Nat.{ℕ}
+use lib.ListN.{take}
+use Rattle.lists.specs.Bits.{field}
+use Rattle.tlv.specs.Fields.{outside, badValues}
+use Rattle.tlv.specs.Header.{wordAt, typeAt, lengthAt, sizeAt, standsAt, fixedAt, isPower}
+use Rattle.tlv.specs.Read.{cut, exactlyOne, addedIn, formIn, fieldsIn, readOf}
+use Rattle.tlv.specs.Search.{isCut, powers, theOne, answerTo, searchOf}
+use Rattle.tlv.specs.Walk.{stepOf, walk, walkFrom}
+use Rattle.tlv.specs.Write.{bytesOf}
+use Rattle.tlv.specs.declared.fields.Fields.{Fields}
+use Rattle.tlv.specs.declared.fields.Form.the-variants.{Long}
+use Rattle.tlv.specs.declared.read.Taken.the-variants.{Is, Refused as No}
+use Rattle.tlv.specs.declared.search.Searched.the-variants.{Is as Found, Refused}
+
+-- "Whole case: `FE 0C 00 12 0F 02 00 01 05 52 00 FF 00 82`"
+abbrev pub wholeBytes : List ℕ
+wholeBytes = 0xFE ∷ 0x0C ∷ 0x00 ∷ 0x12 ∷ 0x0F ∷ 0x02 ∷ 0x00 ∷ 0x01 ∷ 0x05 ∷ 0x52 ∷ 0x00 ∷ 0xFF ∷ 0x00 ∷ 0x82 ∷ []
+
+-- "is type 01, source 01, priority 10, requested 255, allocated 130"
+abbrev pub wholeFields : Fields
+wholeFields =
+    record {
+      support = 0x00;
+      pair = 0x01;
+      class = 0x05;
+      form = Long (record { kind = 0b01; source = 0b01; priority = 0b10; requested = 255; allocated = 130 });
+    }
+
+pub whole-reads : readOf wholeBytes ≡ Is wholeFields
+unfolding readOf cut exactlyOne fieldsIn formIn addedIn badValues outside isPower fixedAt standsAt typeAt lengthAt sizeAt wordAt field
+whole-reads = refl
+
+pub whole-written : bytesOf wholeFields ≡ wholeBytes
+unfolding bytesOf
+whole-written = refl
+
+pub whole-found : searchOf wholeBytes ≡ Found 0 14
+unfolding searchOf answerTo theOne powers isCut walkFrom walk stepOf isPower fixedAt standsAt typeAt lengthAt sizeAt wordAt field
+whole-found = refl
+
+-- "Empty PDU: 7."
+pub empty : searchOf [] ≡ Refused 7
+unfolding searchOf answerTo theOne powers isCut walkFrom walk
+empty = refl
+
+-- PDUs, in this order: a lone last byte 00; a type 0 header with a length; nothing counts after the end; two power TLVs; two and then a
+-- cut one; a header that says more than there is; a TLV of type 127 that ends before its subtype
+pub searches :
+    map searchOf (
+    (0x00 ∷ [])
+    ∷ (wholeBytes ++ (0x00 ∷ 0x05 ∷ []))
+    ∷ (0x00 ∷ 0x00 ∷ wholeBytes)
+    ∷ (wholeBytes ++ wholeBytes)
+    ∷ (wholeBytes ++ wholeBytes ++ (0x02 ∷ []))
+    ∷ (0x02 ∷ 0x01 ∷ [])
+    ∷ (0xFE ∷ 0x03 ∷ 0x00 ∷ 0x12 ∷ 0x0F ∷ [])
+    ∷ []
+    )
+    ≡ Refused 6 ∷ Found 0 14 ∷ Refused 7 ∷ Refused 8 ∷ Refused 6 ∷ Refused 6 ∷ Refused 7 ∷ []
+unfolding searchOf answerTo theOne powers isCut walkFrom walk stepOf isPower fixedAt standsAt typeAt lengthAt sizeAt wordAt field
+searches = refl
+
+-- bytes handed to the reader, in this order: none; fewer than the header says, of another type too; a byte left over; another type
+pub readings : map readOf ([] ∷ take 13 wholeBytes ∷ (0x02 ∷ 0x01 ∷ []) ∷ (wholeBytes ++ (0x00 ∷ [])) ∷ (0x00 ∷ 0x00 ∷ []) ∷ []) ≡ No 6 ∷ No 6 ∷ No 6 ∷ No 9 ∷ No 9 ∷ []
+unfolding readOf cut exactlyOne fieldsIn formIn addedIn badValues outside isPower fixedAt standsAt typeAt lengthAt sizeAt wordAt field
+readings = refl

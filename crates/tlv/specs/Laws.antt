@@ -1,0 +1,56 @@
+-- What holds of the reader, the writer and the search together, over both forms of the power TLV. Proved in proofs/Back, Again and Boundary.
+use mathlib.Core.Path.{_≡_}
+use mathlib.Core.Bool.{Bool, true}
+use mathlib.Core.List.{List, _++_}
+use Prim.Native.Nat.{ℕ, _+_, _≤_}
+use lib.Dec.{ltb}
+use lib.ListN.{length, getD, take, drop}
+use Rattle.lists.specs.Bits.{field}
+use Rattle.lists.specs.Table.{all}
+use Rattle.tlv.specs.Header.{sizeAt, isPower}
+use Rattle.tlv.specs.Read.{readOf}
+use Rattle.tlv.specs.Search.{searchOf}
+use Rattle.tlv.specs.Walk.{stepOf}
+use Rattle.tlv.specs.Write.{writtenOf, roomAfter}
+use Rattle.tlv.specs.declared.fields.Fields.{Fields}
+use Rattle.tlv.specs.declared.read.Taken.the-variants.{Is as Taken}
+use Rattle.tlv.specs.declared.walk.Step.the-variants.{Tlv}
+use Rattle.tlv.specs.declared.search.Searched.the-variants.{Is as Found}
+use Rattle.tlv.specs.declared.write.Written.the-variants.{Is as Wrote}
+
+-- "Whatever is written reads back as written"
+abbrev pub WrittenReads : Type 0
+WrittenReads = (f : Fields) (room : List ℕ) (n : ℕ) → writtenOf f room ≡ Wrote n → readOf (take n (roomAfter f room)) ≡ Taken f
+
+abbrev pub isByte : ℕ → Bool
+isByte x = ltb x 256
+
+-- "bytes that read, with 3:2 zero, are rewritten the same": in any room that is long enough, whose other bytes stay
+abbrev pub ReadRewrites : Type 0
+ReadRewrites =
+    (bytes : List ℕ) → all isByte bytes ≡ true → (f : Fields) → readOf bytes ≡ Taken f → field 2 2 (getD bytes 9 0) ≡ 0
+    → (room : List ℕ) → length bytes ≤ length room → (Wrote (length bytes) ≡ writtenOf f room) × (bytes ++ drop (length bytes) room ≡ roomAfter f room)
+
+-- a boundary of the walk: the start of the bytes, or the end of a whole TLV that starts at a boundary
+pub data Boundary (bytes : List ℕ) : ℕ → Type 0 where
+  start : Boundary bytes 0
+  next : (at size : ℕ) → Boundary bytes at → stepOf bytes at ≡ Tlv size → Boundary bytes (at + size)
+
+-- a whole power TLV of so many bytes, at a boundary
+pub record PowerAt (bytes : List ℕ) (at size : ℕ) : Type 0 where
+  pub boundary : Boundary bytes at
+  pub whole : stepOf bytes at ≡ Tlv size
+  pub power : isPower bytes at ≡ true
+
+-- one whole power TLV, and no byte more
+pub record OnePower (bytes : List ℕ) : Type 0 where
+  pub whole : length bytes ≡ sizeAt bytes 0
+  pub power : isPower bytes 0 ≡ true
+
+-- "hands back the part that is the power TLV"
+abbrev pub FoundPower : Type 0
+FoundPower = (bytes : List ℕ) (at size : ℕ) → searchOf bytes ≡ Found at size → PowerAt bytes at size × OnePower (take size (drop at bytes))
+
+-- what the reader takes, from the search or from elsewhere
+abbrev pub TakenPower : Type 0
+TakenPower = (bytes : List ℕ) (f : Fields) → readOf bytes ≡ Taken f → OnePower bytes

@@ -1,0 +1,50 @@
+-- Document 01, "The power TLV": what the reader answers.
+use Prim.Native.Nat.{ℕ}
+use mathlib.Core.Bool.{Bool, cond, _&&_, _||_, not}
+use mathlib.Core.List.{List}
+use lib.Dec.{eqb, ltb}
+use lib.ListN.{length, getD}
+use Rattle.lists.specs.Bits.{field}
+use Rattle.tlv.specs.Fields.{badValues}
+use Rattle.tlv.specs.Header.{wordAt, lengthAt, sizeAt, isPower}
+use Rattle.tlv.specs.declared.fields.Fields.{Fields}
+use Rattle.tlv.specs.declared.fields.Form.{Form}
+use Rattle.tlv.specs.declared.fields.Form.the-variants.{Short, Long}
+use Rattle.tlv.specs.declared.fields.Added.{Added}
+use Rattle.tlv.specs.declared.read.Taken.{Taken}
+use Rattle.tlv.specs.declared.read.Taken.the-variants.{Is, Refused}
+
+-- refusal 6, "For the reader, fewer than two bytes, or fewer than the header says"
+unfoldable pub cut : List ℕ → Bool
+cut bytes = ltb (length bytes) 2 || ltb (length bytes) (sizeAt bytes 0)
+
+-- what refusal 9 misses, "exactly one power TLV of length 7 or 12"
+unfoldable pub exactlyOne : List ℕ → Bool
+exactlyOne bytes = eqb (length bytes) (sizeAt bytes 0) && (isPower bytes 0 && (eqb (lengthAt bytes 0) 7 || eqb (lengthAt bytes 0) 12))
+
+-- "Length 12 adds one octet (7:6 type, 5:4 source, 3:2 .. ignored when read, 1:0 priority) and the requested and allocated values, 16 bits each"
+unfoldable pub addedIn : List ℕ → Added
+addedIn bytes =
+    record {
+      kind = field 6 2 (getD bytes 9 0);
+      source = field 4 2 (getD bytes 9 0);
+      priority = field 0 2 (getD bytes 9 0);
+      requested = wordAt bytes 10;
+      allocated = wordAt bytes 12;
+    }
+
+-- "Length 7 ends there."
+unfoldable pub formIn : List ℕ → Form
+formIn bytes = cond (eqb (lengthAt bytes 0) 7) Short (Long (addedIn bytes))
+
+-- "then three octets kept as they are (support, pair, class)"
+unfoldable pub fieldsIn : List ℕ → Fields
+fieldsIn bytes = record { support = getD bytes 6 0; pair = getD bytes 7 0; class = getD bytes 8 0; form = formIn bytes }
+
+-- "Reading a TLV: 6, 9, 10."
+unfoldable pub readOf : List ℕ → Taken
+readOf bytes =
+    cond (cut bytes) (Refused 6)
+    (cond (not (exactlyOne bytes)) (Refused 9)
+    (cond (badValues (formIn bytes)) (Refused 10)
+    (Is (fieldsIn bytes))))
