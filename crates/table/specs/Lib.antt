@@ -1,8 +1,10 @@
 pub mod Calls
 pub mod Digest
 pub mod Form
+pub mod Kept
 pub mod Laws
 pub mod Passes
 pub mod Settling
 pub mod Tick
+pub mod Well
 pub mod WellMade
