@@ -71,6 +71,7 @@ pub fn is_forced(enable: Enable) -> bool
         Enable::Disabled => false,
         Enable::Enabled => false,
         Enable::Forced => true,
+        // 11 does not force power
         Enable::Reserved => false,
     }
 }

@@ -2,12 +2,20 @@
 -- It is of the definitions themselves, so that a definition that is wrong at a row is refused, whatever the code does.
 -- Assumes nothing.
 use mathlib.Core.Path.{refl}
+use mathlib.Core.Bool.{true, false}
 use mathlib.Core.List.{List, [], _∷_}
+use Rattle.lists.specs.Places.{tabulate}
+use Rattle.lists.specs.Total.{total}
 use Rattle.reading.specs.Class.{classOf}
 use Rattle.reading.specs.Signature.{outside, byDifferences, signatureOf}
 use Rattle.reading.specs.declared.class.Class.the-variants.{Is, Failure}
 use Rattle.reading.specs.declared.signature.Signature.the-variants.{Valid, Invalid, Open}
-use Rattle.statements.specs.Rows.{Row, Holds, meaning, differences, class, shows, is-class}
+use Rattle.share.specs.Cases.{threeKept}
+use Rattle.share.specs.Share.{claims, before, met, sumWhere, down, keeps}
+use Rattle.tlv.specs.Search.{isCut, powers, theOne, answerTo, searchOf}
+use Rattle.tlv.specs.Walk.{walk, walkFrom}
+use Rattle.tlv.specs.declared.search.Searched.the-variants.{Refused}
+use Rattle.statements.specs.Rows.{Row, Holds, meaning, differences, class, sharing, pdu, shows, is-class, stay, searched}
 
 pub cases : List Row
 cases =
@@ -23,8 +31,12 @@ cases =
     ∷ (class 5001, is-class (Is 1))
     ∷ (class 45000, is-class (Is 4))
     ∷ (class 45001, is-class Failure)
+    ∷ (sharing 300, stay (true ∷ false ∷ false ∷ []))
+    ∷ (sharing 348, stay (true ∷ true ∷ true ∷ []))
+    ∷ (sharing 0, stay (false ∷ false ∷ false ∷ []))
+    ∷ (pdu [], searched (Refused 7))
     ∷ []
 
 pub cases-hold : Holds cases
-unfolding cases meaning signatureOf outside byDifferences classOf
+unfolding cases meaning signatureOf outside byDifferences classOf threeKept tabulate keeps down sumWhere total met before claims searchOf answerTo theOne powers isCut walkFrom walk
 cases-hold = refl

@@ -14,6 +14,9 @@ use Rattle.reading.specs.declared.class.Class.{Class}
 use Rattle.reading.specs.declared.sample.Sampled.{Sampled}
 use Rattle.reading.specs.declared.sample.Flags.{Flags}
 use Rattle.reading.specs.declared.signature.Signature.{Signature}
+use Rattle.share.specs.Cases.{threeKept}
+use Rattle.tlv.specs.Search.{searchOf}
+use Rattle.tlv.specs.declared.search.Searched.{Searched}
 use Rattle.words.specs.Control.{controlOf, refused}
 use Rattle.words.specs.Status.{statusWord}
 use Rattle.words.specs.declared.control.Control.{Control}
@@ -43,6 +46,10 @@ pub data Question : Type 0 where
   fields : ℕ → Question
   status : Latches → ℕ → Condition → Question
   supply : ℕ → Question
+  -- which of three closed ports of equal priority, with 154, 154 and 40, a supply keeps
+  sharing : ℕ → Question
+  -- what the search answers for a PDU
+  pdu : List ℕ → Question
   forced-claim : Question
 
 pub data Answer : Type 0 where
@@ -53,6 +60,8 @@ pub data Answer : Type 0 where
   flags : Flags → Answer
   control : Control → Answer
   figure : Supply → Answer
+  stay : List Bool → Answer
+  searched : Searched → Answer
   word : ℕ → Answer
   test : Bool → Answer
 
@@ -72,6 +81,8 @@ meaning (refusal-3 w) = test (refused w)
 meaning (fields w) = control (controlOf w)
 meaning (status l k c) = word (statusWord l k c)
 meaning (supply n) = figure (supplyOf n)
+meaning (sharing s) = stay (threeKept s)
+meaning (pdu bytes) = searched (searchOf bytes)
 meaning forced-claim = power forced
 
 -- a row: a question, and the answer that it must have

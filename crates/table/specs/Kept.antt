@@ -50,11 +50,12 @@ table-of t e =
     let g1 = leb (t .count) 48 && g2 in
     let e1 = and-right (leb 1 (t .count)) g1 e in
     let e2 = and-right (leb (t .count) 48) g2 e1 in
-    record
-      { some-ports = and-left (leb 1 (t .count)) g1 e
-      ; few-ports = and-left (leb (t .count) 48) g2 e1
-      ; supply = and-left (atMost (t .supply) highestSupply) g3 e2
-      ; ports = λ p l. well-of (portAt t p) (every-at (t .count) (λ q. wellPort (portAt t q)) (and-right (atMost (t .supply) highestSupply) g3 e2) p l) }
+    record {
+      some-ports = and-left (leb 1 (t .count)) g1 e;
+      few-ports = and-left (leb (t .count) 48) g2 e1;
+      supply = and-left (atMost (t .supply) highestSupply) g3 e2;
+      ports = λ p l. well-of (portAt t p) (every-at (t .count) (λ q. wellPort (portAt t q)) (and-right (atMost (t .supply) highestSupply) g3 e2) p l);
+    }
 
 pub table-test : (t : Table) → WellTable t → wellMade t ≡ true
 unfolding wellMade
@@ -79,11 +80,12 @@ unfolding tableAfter
 after-well t block supply e s =
     let w = table-of t e in
     table-test (tableAfter t block supply)
-    (record
-      { some-ports = w .some-ports
-      ; few-ports = w .few-ports
-      ; supply = s
-      ; ports = λ p l. rw (port-after-at t block supply p (omega (arith, well-count t e))) (port-after-well t block supply w p l) })
+    (record {
+      some-ports = w .some-ports;
+      few-ports = w .few-ports;
+      supply = s;
+      ports = λ p l. rw (port-after-at t block supply p (omega (arith, well-count t e))) (port-after-well t block supply w p l);
+    })
 
 -- ---- the calls that change one port
 -- after a store, what stands at a place is what was stored or what was there
@@ -97,11 +99,12 @@ stored (x ∷ l) (suc i) a (suc j) d = stored l i a j d
 with-port-well : (p : ℕ) (q : Port) (t : Table) → WellTable t → Well q → WellTable (withPort p q t)
 unfolding withPort portAt
 with-port-well p q t w v =
-    record
-      { some-ports = w .some-ports
-      ; few-ports = w .few-ports
-      ; supply = w .supply
-      ; ports = λ k l. ⊎-elim (λ e. rw e v) (λ e. rw e (w .ports k l)) (stored (t .ports) p q k noPort) }
+    record {
+      some-ports = w .some-ports;
+      few-ports = w .few-ports;
+      supply = w .supply;
+      ports = λ k l. ⊎-elim (λ e. rw e v) (λ e. rw e (w .ports k l)) (stored (t .ports) p q k noPort);
+    }
 
 pub controlled-well : (p w : ℕ) (t : Table) → wellMade t ≡ true → p < t .count → refused w ≡ false → wellMade (withPort p (withControl w (portAt t p)) t) ≡ true
 unfolding withControl
@@ -132,11 +135,12 @@ pub cold-well : (n : ℕ) → 1 ≤ n → n ≤ 48 → wellMade (coldTable n) �
 unfolding coldTable portAt wellPort wellCounts refused isDemand some atMost field above
 cold-well n h k =
     table-test (coldTable n)
-    (record
-      { some-ports = le-leb 1 n h
-      ; few-ports = le-leb n 48 k
-      ; supply = refl
-      ; ports = λ p l. rw (getD-replicate 48 p coldPort noPort (omega arith)) (well-of coldPort refl) })
+    (record {
+      some-ports = le-leb 1 n h;
+      few-ports = le-leb n 48 k;
+      supply = refl;
+      ports = λ p l. rw (getD-replicate 48 p coldPort noPort (omega arith)) (well-of coldPort refl);
+    })
 
 -- ---- the number of closed ports
 or-false : (x y : Bool) → (x || y) ≡ false → y ≡ false
@@ -189,4 +193,4 @@ closed-number t e =
     ap₂ _+_ (ones-mask 48 (λ p. closedAt t p && a p)) (ones-mask 48 (λ p. closedAt t p && b p))
     ∙ count-either 48 (λ p. closedAt t p && a p) (λ p. closedAt t p && b p) (λ p. apart (closedAt t p) (a p) (b p) (names-apart (pairOf (portAt t p .control))))
     ∙ total-cong 48 (λ p. one ((closedAt t p && a p) || (closedAt t p && b p))) (λ p. one (closedAt t p))
-      (λ p l. ap one (either (closedAt t p) (a p) (b p) (closed-names t w p)))
+    (λ p l. ap one (either (closedAt t p) (a p) (b p) (closed-names t w p)))

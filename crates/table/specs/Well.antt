@@ -73,22 +73,28 @@ counts-of c e =
     let e4 = split (t (c .«power_on»)) g4 (e3 .1) in
     let e5 = split (t (c .limiting)) g5 (e4 .1) in
     let e6 = split (t (c .overload)) g6 (e5 .1) in
-    record
-      { detection = leb-true (c .detection) 2000 (e1 .0)
-      ; backoff = leb-true (c .backoff) 2000 (e2 .0)
-      ; error-delay = leb-true (c .«error_delay») 2000 (e3 .0)
-      ; power-on = leb-true (c .«power_on») 2000 (e4 .0)
-      ; limiting = leb-true (c .limiting) 2000 (e5 .0)
-      ; overload = leb-true (c .overload) 2000 (e6 .0)
-      ; no-load = leb-true (c .«no_load») 2000 (e6 .1) }
+    record {
+      detection = leb-true (c .detection) 2000 (e1 .0);
+      backoff = leb-true (c .backoff) 2000 (e2 .0);
+      error-delay = leb-true (c .«error_delay») 2000 (e3 .0);
+      power-on = leb-true (c .«power_on») 2000 (e4 .0);
+      limiting = leb-true (c .limiting) 2000 (e5 .0);
+      overload = leb-true (c .overload) 2000 (e6 .0);
+      no-load = leb-true (c .«no_load») 2000 (e6 .1);
+    }
 
 counts-test : (c : Counts) → WellCounts c → wellCounts c ≡ true
 unfolding wellCounts
 counts-test c w =
-    simp
-    ( le-leb (c .detection) 2000 (w .detection), le-leb (c .backoff) 2000 (w .backoff), le-leb (c .«error_delay») 2000 (w .error-delay)
-    , le-leb (c .«power_on») 2000 (w .power-on), le-leb (c .limiting) 2000 (w .limiting), le-leb (c .overload) 2000 (w .overload)
-    , le-leb (c .«no_load») 2000 (w .no-load) )
+    simp (
+      le-leb (c .detection) 2000 (w .detection),
+      le-leb (c .backoff) 2000 (w .backoff),
+      le-leb (c .«error_delay») 2000 (w .error-delay),
+      le-leb (c .«power_on») 2000 (w .power-on),
+      le-leb (c .limiting) 2000 (w .limiting),
+      le-leb (c .overload) 2000 (w .overload),
+      le-leb (c .«no_load») 2000 (w .no-load),
+    )
 
 pub well-of : (p : Port) → wellPort p ≡ true → Well p
 unfolding wellPort

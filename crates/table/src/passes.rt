@@ -112,12 +112,12 @@ pub fn settle_all(table: Table, moves: Moves, kept: [bool; 48], supply: Power) -
     let n = table.count as usize;
     let claims = moves.claims;
     let mut after = table;
-    let mut i = 0;
-    while i < n {
-        let m = moves.moved[i];
-        let port = settled_port(claims.ranks[i], kept[i], m);
-        after.ports[i] = port;
-        i += 1;
+    let mut k = 0;
+    while k < n {
+        let m = moves.moved[k];
+        let port = settled_port(claims.ranks[k], kept[k], m);
+        after.ports[k] = port;
+        k += 1;
     }
     after.supply = supply;
     after

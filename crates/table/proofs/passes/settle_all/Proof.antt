@@ -54,14 +54,14 @@ settle-all-spec =
     let s = c .before .before .before .before .before .before .before .args in
     let l = c .before .before .before .before .loop in (
       omega arith,
-      filled-more noPort (settling (s .t2) (s .t2 .claims) (s .t3)) (s .table .ports) (l .i) (l .after .ports) (c .settled-port .result) (l .inv .1)
+      filled-more noPort (settling (s .t2) (s .t2 .claims) (s .t3)) (s .table .ports) (l .k) (l .after .ports) (c .settled-port .result) (l .inv .1)
           (omega (arith, long (c .before .before .before .before .before .before .before))) (c .settled-port .ensures),
       l .inv .2,
     ))
     (λ c.
     let s = c .before .before .before .before .args in
     let l = c .before .loop in
-    let e : l .i ≡ s .table .count = le-antisymm (l .inv .0) (c .loop-test .left) in
+    let e : l .k ≡ s .table .count = le-antisymm (l .inv .0) (c .loop-test .left) in
     λ k.
     record {
       ports = filled-below noPort (settling (s .t2) (s .t2 .claims) (s .t3)) (s .table .ports) 48 (s .table .count) (l .after .ports) (long (c .before .before .before .before)) (rw e at (l .inv .1)) k;
