@@ -1,0 +1,268 @@
+//! The cases of document 01, and the line language.
+
+use crate::count;
+use crate::lines::Console;
+use crate::port::{Port, State};
+use crate::reading::{class_of_current, signature, Signature, BUDGETS};
+use crate::scripts;
+use crate::table::Table;
+use crate::tlv;
+
+/// A dialogue: each line with its answer.
+fn dialogue(console: &mut Console, lines: &[(&str, &str)]) {
+    for (line, answer) in lines {
+        assert_eq!(console.answer(line.as_bytes()).to_string(), *answer, "{line}");
+    }
+}
+
+fn said(line: &str) -> String {
+    Console::new().answer(line.as_bytes()).to_string()
+}
+
+fn sample(flags: u16) -> String {
+    format!("0fa01f4000a001400bb80bb8{flags:04x}")
+}
+
+/// "dV/dI, V1 = 4,000": the first eight of the sixteen cases.
+#[test]
+fn sixteen_cases_signature() {
+    let cases = [
+        (1_900, 100, Signature::Valid),
+        (1_899, 100, Signature::Invalid),
+        (2_650, 100, Signature::Valid),
+        (2_651, 100, Signature::Invalid),
+        (4_999, 10, Signature::Invalid),
+        (5_000, 10, Signature::Open),
+        (5_000, 0, Signature::Open),
+        (999, 40, Signature::Invalid),
+    ];
+    for (dv, di, reading) in cases {
+        assert_eq!(signature(4_000, 4_000 + dv, 100, 100 + di), reading, "{dv}/{di}");
+    }
+}
+
+/// "Class at 5,000: 0; 5,001: 1; 45,000: 4; 45,001: failure."
+#[test]
+fn sixteen_cases_class() {
+    assert_eq!(class_of_current(5_000), Some(0));
+    assert_eq!(class_of_current(5_001), Some(1));
+    assert_eq!(class_of_current(45_000), Some(4));
+    assert_eq!(class_of_current(45_001), None);
+    assert_eq!(BUDGETS, [154, 40, 70, 154, 300]);
+}
+
+/// "Supply 300, closed ports 0, 1, 2 of equal priority with 154, 154, 40: port
+/// 0 stays, 1 and 2 go; at 348 all stay; at 0 none."
+#[test]
+fn sixteen_cases_supply() {
+    for (supply, mask) in [(300, 0b001), (348, 0b111), (0, 0b000)] {
+        let mut table = Table::cold(3).unwrap();
+        for (p, demand) in [154, 154, 40].into_iter().enumerate() {
+            let state = State::PowerOn;
+            table.ports[p] = Port { state, control: 5, demand, ..Port::COLD };
+        }
+        let block: Vec<u8> = (0..42).map(|k| if k % 14 == 13 { 0x20 } else { 0 }).collect();
+        let ticked = table.tick(supply, &block).unwrap();
+        assert_eq!((ticked.mask_a, ticked.mask_b), (mask, 0), "supply {supply}");
+        assert_eq!(ticked.closed, mask.count_ones());
+        for p in 0..3 {
+            let denied = table.status(p).unwrap() >> 12 & 1;
+            assert_eq!(u64::from(denied), 1 - (mask >> p & 1));
+        }
+    }
+}
+
+/// "Empty PDU: 7."
+#[test]
+fn sixteen_cases_empty_pdu() {
+    assert_eq!(tlv::search(&[]), Err(7));
+    assert_eq!(said("search -"), "refused 7");
+}
+
+/// "Whole case": type 01, source 01, priority 10, requested 255, allocated 130.
+#[test]
+fn whole_tlv_case() {
+    let bytes = "fe0c00120f0200010552".to_owned() + "00ff0082";
+    assert_eq!(said(&format!("read {bytes}")), "fields 0 1 5 1 1 2 255 130");
+    assert_eq!(said("write12 14 0 1 5 1 1 2 255 130"), format!("wrote {bytes}"));
+    assert_eq!(said("write12 16 0 1 5 1 1 2 255 130"), format!("wrote {bytes}a5a5"));
+    assert_eq!(said("write7 9 0 1 5"), "wrote fe0700120f02000105");
+    assert_eq!(said(&format!("search 0200{bytes}0000ff")), "found 2 14");
+    assert_eq!(said(&format!("search {bytes}{bytes}")), "refused 8");
+    assert_eq!(said(&format!("search {bytes}{bytes}00")), "refused 6");
+    assert_eq!(said(&format!("search {bytes}{bytes}01ff00")), "refused 8");
+    assert_eq!(said(&format!("read {bytes}00")), "refused 9");
+    assert_eq!(said("read fe"), "refused 6");
+}
+
+/// One port, control 5, supply 200: closed exactly from the 4th tick on.
+#[test]
+fn walk_to_power() {
+    let mut console = Console::new();
+    dialogue(&mut console, &[("cold 1", "ok"), ("control 0 5", "ok")]);
+    let line = format!("tick 200 {}", sample(0b100111));
+    for tick in 1..=50 {
+        let answer = if tick >= 4 { "ticked 1 0 1" } else { "ticked 0 0 0" };
+        dialogue(&mut console, &[(&line, answer)]);
+    }
+    assert_eq!(console.table.ports[0].state, State::PowerOn);
+    dialogue(
+        &mut console,
+        &[
+            ("status 0", "status 2053"),
+            ("status 0", "status 5"),
+            ("request 0 38", "ok"),
+            ("request 0 129", "ok"),
+            ("request 0 130", "refused 11"),
+            ("request 0 256", "refused 10"),
+            ("control 0 9", "refused 5"),
+            (&format!("tick 153 {}", sample(0b100111)), "ticked 0 0 0"),
+            ("status 0", "status 4099"),
+        ],
+    );
+}
+
+/// Refusal 12 compares with the stored supply, for a higher demand only.
+#[test]
+fn request_against_the_supply() {
+    let mut console = Console::new();
+    dialogue(&mut console, &[("cold 1", "ok"), ("control 0 5", "ok")]);
+    for _ in 0..5 {
+        console.answer(format!("tick 154 {}", sample(0b100111)).as_bytes());
+    }
+    dialogue(
+        &mut console,
+        &[
+            ("request 0 38", "ok"),
+            (&format!("tick 153 {}", sample(0b100000)), "ticked 1 0 1"),
+            ("request 0 129", "refused 12"),
+            ("request 0 64", "ok"),
+            (&format!("tick 154 {}", sample(0b100000)), "ticked 1 0 1"),
+            ("request 0 129", "ok"),
+        ],
+    );
+}
+
+/// Document 01's order of checks, and the numbers that are too large.
+#[test]
+fn refusals() {
+    let mut console = Console::new();
+    dialogue(
+        &mut console,
+        &[
+            ("status 0", "refused 13"),
+            ("tick 60001 00", "refused 13"),
+            ("cold 0", "refused 2"),
+            ("cold 49", "refused 2"),
+            ("cold 18446744073709551615", "refused 2"),
+            ("cold 1", "ok"),
+            ("control 1 3", "refused 2"),
+            ("control 0 65541", "refused 3"),
+            ("control 0 5", "ok"),
+            ("request 4294967296 0", "refused 2"),
+            ("request 0 4294967297", "refused 10"),
+            ("request 0 1", "refused 5"),
+            ("tick 60001 00", "refused 1"),
+            ("tick 60001 000000000000000000000000ffff", "refused 4"),
+            ("tick 60000 0000000000000000000000000040", "refused 3"),
+            ("tick 60000 0000000000000000000000000000", "ticked 0 0 0"),
+            ("write12 0 1 1 1 4 0 0 0 0", "refused 3"),
+            ("write12 0 1 1 1 3 0 0 256 1", "refused 10"),
+            ("write12 13 1 1 1 3 0 0 255 1", "refused 1"),
+            ("write7 8 1 1 1", "refused 1"),
+        ],
+    );
+}
+
+/// One for each way to break a rule.
+const BAD_LINES: [&str; 32] = [
+    "",
+    " ",
+    "dump ",
+    " dump",
+    "dump  ",
+    "Dump",
+    "dump 1",
+    "cold",
+    "cold ",
+    "cold  1",
+    "cold 1\r",
+    "cold +1",
+    "cold -1",
+    "cold 0x1",
+    "cold 1.0",
+    "cold 18446744073709551616",
+    "cold 000000000000000000001",
+    "search",
+    "search 0",
+    "search 0g",
+    "search --",
+    "tick 1",
+    "tick - -",
+    "write7 2049 0 0 0",
+    "write7 9 256 0 0",
+    "write7 9 0 0",
+    "class 65536 0",
+    "signature 1 2 3 65536",
+    "class 1",
+    "write12 14 0 0 0 1 1 1 1",
+    "status 0 0",
+    "\u{e9}",
+];
+
+/// The rules at the top of `lines.rs`.
+#[test]
+fn bad_lines() {
+    let long = |digits: usize| format!("table {}", "0".repeat(digits));
+    for line in BAD_LINES {
+        assert_eq!(said(line), "bad line", "{line:?}");
+    }
+    assert_eq!(said(&long(8_188)), "bad line");
+    assert_eq!(said(&long(8_186)), "bad image");
+    assert_eq!(said("table -"), "bad image");
+    assert_eq!(said("cold 00000000000000000001"), "ok");
+    assert_eq!(said("search FE"), "refused 6");
+}
+
+/// `dump` after `table` gives the same image; what is no image changes nothing.
+#[test]
+fn images() {
+    let mut console = Console::new();
+    let zero = "00".repeat(1_014);
+    dialogue(&mut console, &[("dump", &zero)]);
+    let mut image = String::from("00010000ffff");
+    for _ in 0..48 {
+        image += "09ffffffffff3fffffffffffffffffffffffffffff";
+    }
+    dialogue(
+        &mut console,
+        &[
+            (&format!("table {}", image.to_uppercase()), "ok"),
+            ("dump", &image),
+            ("status 0", "refused 13"),
+            (&format!("table {}", image.replace("0000ffff", "00010000")), "bad image"),
+            (&format!("table {}", image.replace("09ff", "0aff")), "bad image"),
+            (&format!("table {}", image.replace("ff3f", "ff40")), "bad image"),
+            (&format!("table {image}00"), "bad image"),
+            ("dump", &image),
+        ],
+    );
+}
+
+/// Same seed, same script; and a script of the size that is stored meets every
+/// state, exit, latch, refusal, order of checks and corner.
+#[test]
+fn a_script_meets_everything() {
+    let script = scripts::made(1, 20_000, scripts::Kind::Mixed);
+    assert_eq!(script, scripts::made(1, 20_000, scripts::Kind::Mixed));
+    assert_eq!(script.iter().filter(|&&byte| byte == b'\n').count(), 20_000);
+    let counts = count::counted(&script);
+    for row in counts.lines() {
+        assert!(!row.ends_with("| 0 |") && !row.contains("NOT LISTED"), "{row}");
+    }
+    for row in counts.lines().filter(|r| r.contains("shed from") || r.contains("| request | 12 |"))
+    {
+        let met = row.trim_end_matches(" |").rsplit(' ').next().unwrap_or("0");
+        assert!(met.parse::<u64>().unwrap() >= 100, "{row}");
+    }
+}
