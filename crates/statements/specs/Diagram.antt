@@ -1,0 +1,154 @@
+-- What the port's diagram and the settling never do, for the third statement: a move closes no port by itself; a shed port is open;
+-- a port that stays closed draws what it claimed.
+-- Assumes nothing.
+use Prim.Native.Nat.{ℕ, _+_, _≤_, _<_}
+use mathlib.Core.Path.{_≡_, refl, sym, _∙_, ap}
+use mathlib.Core.Bool.{Bool, true, false, cond, not, _&&_, false≢true}
+use native.Mathlib.Omega.{arith}
+use native.Mathlib.Nat.{le-refl}
+use lib.Dec.{leb}
+use borrow.Author.Tests.{leb-true}
+use Rattle.power.specs.declared.Power.{Power}
+use Rattle.words.specs.Control.{enableOf, pairOf, priorityOf}
+use Rattle.words.specs.declared.control.Priority.{Priority}
+use Rattle.words.specs.declared.control.Priority.the-variants.{Unknown, Critical, High, Low}
+use Rattle.port.specs.Form.{withCounts, detectionAt, backoffAt, errorDelayAt, powerOnAt, quietly}
+use Rattle.port.specs.Entry.{up, enterIdle, enterDisabled, enterDetecting, enterBackoff, enterErrorDelay, enterClassifying, enterPowerUp, enterPowerOn, enterTestMode, enterTestError}
+use Rattle.port.specs.Rules.{isOff, isOn, isForced, isB, idle, detected, detecting, backoff, errorDelay, classed, classifying, testError}
+use Rattle.port.specs.Settle.{closed, urgency, rank, granted, inTest, shed, settled}
+use Rattle.port.specs.Step.{givesWay, byState, step}
+use Rattle.port.specs.declared.form.Classing.{Classing}
+use Rattle.port.specs.declared.form.Classing.the-variants.{NotDone as NotClassed, Failed, Is as Classed}
+use Rattle.port.specs.declared.form.Detection.{Detection}
+use Rattle.port.specs.declared.form.Detection.the-variants.{NotDone, Valid, Invalid, Open}
+use Rattle.port.specs.declared.form.Moved.{Moved}
+use Rattle.port.specs.declared.form.Port.{Port}
+use Rattle.port.specs.declared.form.Reading.{Reading}
+use Rattle.port.specs.declared.form.State.{State}
+use Rattle.port.specs.declared.form.State.the-variants.{Disabled, Idle, Detecting, Backoff, Classifying, PowerUp, PowerOn, ErrorDelay, TestMode, TestError}
+use Rattle.table.specs.Calls.{draws}
+
+-- a choice of two that are right is right
+pub both : {X : Type 0} (P : X → Type 0) (t : Bool) (a b : X) → P a → P b → P (cond t a b)
+both P true a b p q = p
+both P false a b p q = q
+
+-- an open port's move leaves it open
+abbrev Opened : Moved → Type 0
+Opened m = closed (m .port .state) ≡ false
+
+open-idle : (claim : Power) (p : Port) → closed (p .state) ≡ false → Opened (idle claim p)
+unfolding idle enterDetecting
+open-idle claim p e = both Opened (isOn (enableOf (p .control))) _ _ refl (both Opened (isForced (enableOf (p .control))) _ _ e e)
+
+open-detected : (d : Detection) (q : Port) → closed (q .state) ≡ false → Opened (detected d q)
+unfolding detected enterClassifying enterIdle enterBackoff
+open-detected NotDone q e = e
+open-detected Valid q e = refl
+open-detected Invalid q e = both (λ (x : Port). closed (x .state) ≡ false) (isB (pairOf (q .control))) (enterBackoff q) (enterIdle q) refl refl
+open-detected Open q e = refl
+
+open-classed : (k : Classing) (q : Port) → closed (q .state) ≡ false → Opened (classed k q)
+unfolding classed enterIdle
+open-classed NotClassed q e = e
+open-classed Failed q e = refl
+open-classed (Classed k d) q e = e
+
+-- a port that a choice leaves open
+Left : Port → Type 0
+Left x = closed (x .state) ≡ false
+
+open-detecting : (p : Port) (r : Reading) → closed (p .state) ≡ false → Opened (detecting p r)
+unfolding detecting enterIdle
+open-detecting p r e =
+    let q = withCounts (detectionAt (up (p .counts .detection)) (p .counts)) p in
+    both Opened (leb 500 (q .counts .detection)) (quietly (enterIdle q)) (detected (r .detection) q) refl (open-detected (r .detection) q e)
+
+open-backoff : (p : Port) → closed (p .state) ≡ false → Opened (backoff p)
+unfolding backoff enterIdle Left
+open-backoff p e =
+    let q = withCounts (backoffAt (up (p .counts .backoff)) (p .counts)) p in
+    both Left (leb 2000 (q .counts .backoff)) (enterIdle q) q refl e
+
+open-error-delay : (p : Port) → closed (p .state) ≡ false → Opened (errorDelay p)
+unfolding errorDelay enterIdle Left
+open-error-delay p e =
+    let q = withCounts (errorDelayAt (up (p .counts .«error_delay»)) (p .counts)) p in
+    both Left (leb 750 (q .counts .«error_delay»)) (enterIdle q) q refl e
+
+open-classifying : (p : Port) (r : Reading) → closed (p .state) ≡ false → Opened (classifying p r)
+unfolding classifying enterIdle
+open-classifying p r e =
+    let q = withCounts (powerOnAt (up (p .counts .«power_on»)) (p .counts)) p in
+    both Opened (leb 400 (q .counts .«power_on»)) (quietly (enterIdle q)) (classed (r .class) q) refl (open-classed (r .class) q e)
+
+open-test-error : (p : Port) → closed (p .state) ≡ false → Opened (testError p)
+unfolding testError enterIdle Left
+open-test-error p e = both Left (isForced (enableOf (p .control))) p (enterIdle p) e refl
+
+open-state : (s : State) (claim : Power) (p : Port) (r : Reading) → closed s ≡ false → closed (p .state) ≡ false → Opened (byState s claim p r)
+unfolding byState enterIdle
+open-state Disabled claim p r g e = refl
+open-state Idle claim p r g e = open-idle claim p e
+open-state Detecting claim p r g e = open-detecting p r e
+open-state Backoff claim p r g e = open-backoff p e
+open-state Classifying claim p r g e = open-classifying p r e
+open-state PowerUp claim p r g e = absurd (false≢true (sym g))
+open-state PowerOn claim p r g e = absurd (false≢true (sym g))
+open-state ErrorDelay claim p r g e = open-error-delay p e
+open-state TestMode claim p r g e = absurd (false≢true (sym g))
+open-state TestError claim p r g e = open-test-error p e
+
+pub open-stays : (claim : Power) (p : Port) (r : Reading) → closed (p .state) ≡ false → closed (step claim p r .port .state) ≡ false
+unfolding step enterIdle enterDisabled
+open-stays claim p r e =
+    both Opened (isOff (enableOf (p .control))) _ _ refl
+    (both Opened (isForced (enableOf (p .control)) && givesWay (p .state)) _ _ refl (open-state (p .state) claim p r e e))
+
+-- a shed port is open
+pub shed-open : (p : Port) → closed (shed p .port .state) ≡ false
+unfolding shed enterTestError enterIdle
+shed-open p = both (λ (x : Port). closed (x .state) ≡ false) (inTest (p .state)) (enterTestError p) (enterIdle p) refl refl
+
+-- a port that is granted its state keeps its demand
+pub granted-demand : (s : State) (p : Port) → granted s p .demand ≡ p .demand
+unfolding granted enterTestMode enterPowerUp
+granted-demand Disabled p = refl
+granted-demand Idle p = refl
+granted-demand Detecting p = refl
+granted-demand Backoff p = refl
+granted-demand Classifying p = refl
+granted-demand PowerUp p = refl
+granted-demand PowerOn p = refl
+granted-demand ErrorDelay p = refl
+granted-demand TestMode p = refl
+granted-demand TestError p = refl
+
+-- a port draws at most its demand, and nothing while it is open
+pub draws-at-most : (p : Port) → draws p ≤ p .demand .0
+unfolding draws
+draws-at-most p = both (λ (n : ℕ). n ≤ p .demand .0) (closed (p .state)) (p .demand .0) 0 (le-refl (p .demand .0)) (omega arith)
+
+pub draws-open : (p : Port) → closed (p .state) ≡ false → draws p ≡ 0
+unfolding draws
+draws-open p e = simp e
+
+urgency-small : (x : Priority) → urgency x ≤ 2
+urgency-small Unknown = omega arith
+urgency-small Critical = omega arith
+urgency-small High = omega arith
+urgency-small Low = omega arith
+
+-- a port without a claim is open, unless it is closed though it was open before the tick
+pub no-claim-open : (before : State) (m : Moved) → leb 6 (rank before m) ≡ true → (closed before ≡ false → closed (m .port .state) ≡ false) → closed (m .port .state) ≡ false
+unfolding rank
+no-claim-open before m e h = go (closed before) (closed (m .port .state)) refl refl
+  where
+    u : ℕ
+    u = urgency (priorityOf (m .port .control))
+    go : (b n : Bool) → closed before ≡ b → closed (m .port .state) ≡ n → closed (m .port .state) ≡ false
+    go b false p q = q
+    go false true p q = h p
+    go true true p q =
+        let z : leb 6 u ≡ true = simp (p, q) at e in
+        absurd (omega (arith, leb-true 6 u z, urgency-small (priorityOf (m .port .control))))
