@@ -2,6 +2,8 @@ pub mod Cases
 pub mod Diagram
 pub mod History
 pub mod Limits
+pub mod Reached
 pub mod Rows
 pub mod Shared
 pub mod Shows
+pub mod Statement3
