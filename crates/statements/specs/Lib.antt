@@ -6,4 +6,5 @@ pub mod Reached
 pub mod Rows
 pub mod Shared
 pub mod Shows
+pub mod Statement1
 pub mod Statement3
