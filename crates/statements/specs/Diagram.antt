@@ -146,6 +146,7 @@ no-claim-open before m e h = go (closed before) (closed (m .port .state)) refl r
   where
     u : ℕ
     u = urgency (priorityOf (m .port .control))
+
     go : (b n : Bool) → closed before ≡ b → closed (m .port .state) ≡ n → closed (m .port .state) ≡ false
     go b false p q = q
     go false true p q = h p

@@ -7,4 +7,5 @@ pub mod Rows
 pub mod Shared
 pub mod Shows
 pub mod Statement1
+pub mod Statement2
 pub mod Statement3

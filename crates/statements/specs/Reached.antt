@@ -66,12 +66,12 @@ unfolding writeControl controlled refuse done withControl
 control-keeps t p w =
     choiceOn (λ (r : Told). Keeps t (r .table)) (wellMade t) _ _
     (λ m. choiceOn (λ (r : Told). Keeps t (r .table)) (ltb p (t .count)) _ _
-      (λ l. choiceOn (λ (r : Told). Keeps t (r .table)) (refused w) _ _
-        (λ e. same t)
-        (λ e. choiceOn (λ (r : Told). Keeps t (r .table)) (inDisabled (portAt t p .state) || sameAlternative (portAt t p .control) w) _ _
-          (λ g. changed p (withControl w (portAt t p)) t refl (λ v. controlled-well p w t v (ltb-true p (t .count) l) e))
-          (λ g. same t)))
-      (λ l. same t))
+    (λ l. choiceOn (λ (r : Told). Keeps t (r .table)) (refused w) _ _
+    (λ e. same t)
+    (λ e. choiceOn (λ (r : Told). Keeps t (r .table)) (inDisabled (portAt t p .state) || sameAlternative (portAt t p .control) w) _ _
+    (λ g. changed p (withControl w (portAt t p)) t refl (λ v. controlled-well p w t v (ltb-true p (t .count) l) e))
+    (λ g. same t)))
+    (λ l. same t))
     (λ m. same t)
 
 status-keeps : (t : Table) (p : ℕ) → Keeps t (readStatus t p .table)
@@ -79,8 +79,8 @@ unfolding readStatus statusAt refuseStatus tells unlatched
 status-keeps t p =
     choiceOn (λ (r : StatusRead). Keeps t (r .table)) (wellMade t) _ _
     (λ m. choiceOn (λ (r : StatusRead). Keeps t (r .table)) (ltb p (t .count)) _ _
-      (λ l. changed p (unlatched (portAt t p)) t refl (λ v. unlatched-well p t v (ltb-true p (t .count) l)))
-      (λ l. same t))
+    (λ l. changed p (unlatched (portAt t p)) t refl (λ v. unlatched-well p t v (ltb-true p (t .count) l)))
+    (λ l. same t))
     (λ m. same t)
 
 request-keeps : (t : Table) (p v : ℕ) → Keeps t (request t p v .table)
@@ -88,21 +88,22 @@ unfolding request requested granting refuse done demanding levelOf
 request-keeps t p v =
     choiceOn (λ (r : Told). Keeps t (r .table)) (wellMade t) _ _
     (λ m. choiceOn (λ (r : Told). Keeps t (r .table)) (ltb p (t .count)) _ _
-      (λ l. choiceOn (λ (r : Told). Keeps t (r .table)) (leb 1 v && leb v 255) _ _
-        (λ a. choiceOn (λ (r : Told). Keeps t (r .table)) (inPowerOn (portAt t p .state)) _ _
-          (λ b. choiceOn (λ (r : Told). Keeps t (r .table)) (atMost (levelOf v) (budgetOf (portAt t p .class))) _ _
-            (λ c. choiceOn (λ (r : Told). Keeps t (r .table)) (atMost (levelOf v) (portAt t p .demand) || fits (sumOf (closedSum (withPort p (demanding (levelOf v) (portAt t p)) t))) (t .supply)) _ _
-              (λ g. changed p (demanding (levelOf v) (portAt t p)) t refl (λ w. demanding-well (levelOf v) p t w (ltb-true p (t .count) l) (budget-is-demand _)))
-              (λ g. same t))
-            (λ c. same t))
-          (λ b. same t))
-        (λ a. same t))
-      (λ l. same t))
+    (λ l. choiceOn (λ (r : Told). Keeps t (r .table)) (leb 1 v && leb v 255) _ _
+    (λ a. choiceOn (λ (r : Told). Keeps t (r .table)) (inPowerOn (portAt t p .state)) _ _
+    (λ b. choiceOn (λ (r : Told). Keeps t (r .table)) (atMost (levelOf v) (budgetOf (portAt t p .class))) _ _
+    (λ c. choiceOn (λ (r : Told). Keeps t (r .table)) (atMost (levelOf v) (portAt t p .demand) || fits (sumOf (closedSum (withPort p (demanding (levelOf v) (portAt t p)) t))) (t .supply)) _ _
+    (λ g. changed p (demanding (levelOf v) (portAt t p)) t refl (λ w. demanding-well (levelOf v) p t w (ltb-true p (t .count) l) (budget-is-demand _)))
+    (λ g. same t))
+    (λ c. same t))
+    (λ b. same t))
+    (λ a. same t))
+    (λ l. same t))
     (λ m. same t)
 
 -- an accepted tick: its table is the tick's, its figure is in range, and it came from a well-made table
 pub record Ran (t : Table) (block : List ℕ) (figure : ℕ) (r : Ticked) : Type 0 where
   pub answer : accepted (r .answer) ≡ true
+  pub whole : r ≡ answered (tableAfter t block (tenths figure))
   pub table : r .table ≡ tableAfter t block (tenths figure)
   pub well : wellMade t ≡ true
   pub figure-in-range : figure ≤ 60000
@@ -122,20 +123,21 @@ unfolding tick tickWith supplyOf answered
 tick-told t block figure =
     choiceOn Told′ (wellMade t) _ _
     (λ m. choiceOn Told′ (eqb (length block) (14 * t .count)) _ _
-      (λ l. figures (leb figure 60000) refl m)
-      (λ l. inl (stopped 1 t)))
+    (λ l. figures (leb figure 60000) refl m)
+    (λ l. inl (stopped 1 t)))
     (λ m. inl (stopped 13 t))
   where
     Told′ : Ticked → Type 0
     Told′ r = Stopped t r ⊎ Ran t block figure r
+
     figures : (b : Bool) → leb figure 60000 ≡ b → wellMade t ≡ true → Told′ (tickWith (cond b (Is (tenths figure)) TooLarge) t block)
     figures true e m =
         choiceOn Told′ (flagsTaken t block) (answered (tableAfter t block (tenths figure))) (refuseTick 3 t)
-        (λ f. inr (record { answer = refl; table = refl; well = m; figure-in-range = leb-true figure 60000 e }))
+        (λ f. inr (record { answer = refl; whole = refl; table = refl; well = m; figure-in-range = leb-true figure 60000 e }))
         (λ f. inl (stopped 3 t))
     figures false e m = inl (stopped 4 t)
 
-in-range : (f : ℕ) → f ≤ 60000 → atMost (tenths f) highestSupply ≡ true
+pub in-range : (f : ℕ) → f ≤ 60000 → atMost (tenths f) highestSupply ≡ true
 unfolding atMost
 in-range f h = le-leb f 60000 h
 
@@ -216,5 +218,5 @@ reached-needs n a b (c ∷ h) p l =
     choiceOn (λ (x : Shown). Needs (portAt (after (reached n h) c) p .state) x) (isIdle (portAt (after (reached n h) c) p .state)) nothing _
     (λ e. idle-needs (portAt (after (reached n h) c) p .state) e)
     (λ e.
-      let k : p < reached n h .count = subst (λ (m : ℕ). p < m) (call-count (reached n h) c) l in
-      call-needs (reached n h) (reached-well n a b h) p (shown n p h) c k (reached-needs n a b h p k))
+    let k : p < reached n h .count = subst (λ (m : ℕ). p < m) (call-count (reached n h) c) l in
+    call-needs (reached n h) (reached-well n a b h) p (shown n p h) c k (reached-needs n a b h p k))

@@ -50,6 +50,7 @@ settled-draws r k m h = go (leb 6 r) k refl
   where
     d : ℕ
     d = m .port .demand .0
+
     go : (t k : Bool) → leb 6 r ≡ t → draws (cond t (m .port) (cond k (cond (m .asks) (granted (m .port .state) (m .port)) (m .port)) (shed (m .port) .port))) ≤ cond k d 0
     go true k e = omega (arith, draws-open (m .port) (h e))
     go false true e =
@@ -71,7 +72,7 @@ module _ (t : Table) (block : List ℕ) (few : t .count ≤ 48) where
       let l : p < t .count = rw (count-after t block s) at (ltb-true p (tableAfter t block s .count) (and-left (ltb p (tableAfter t block s .count)) _ e)) in
       let c : closed (portAt (tableAfter t block s) p .state) ≡ true = and-right (ltb p (tableAfter t block s .count)) _ e in
       let c′ = settled-mono (rankAt t block p) (keptAt t block s p) (keptAt t block s′ p) (movedAt t block p)
-                 (more-keeps 48 (rankAt t block) (λ q. claimAt t block q .0) (s .0) (s′ .0) p h) (rw (here s p l) at c) in
+      (more-keeps 48 (rankAt t block) (λ q. claimAt t block q .0) (s .0) (s′ .0) p h) (rw (here s p l) at c) in
       simp (count-after t block s′, lt-ltb p (t .count) l, here s′ p l) c′
 
   -- a port without a claim is open after its move

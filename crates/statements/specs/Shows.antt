@@ -196,9 +196,10 @@ module _ (s : Sample) where
     unfolding classed enterIdle y
     right-classed NotClassed q e c n = quiet y q (kept (q .state) x n)
     right-classed Failed q e c n = quiet y (enterIdle q) tt
-    right-classed (Classed k d) q e c n =
-        ( kept (q .state) x n
-        , λ a. subst (λ (st : State). Asked st y) (sym c) (class-seen (class-given k d e) x (subst (λ (st : State). Needs st x) c n)) )
+    right-classed (Classed k d) q e c n = (
+      kept (q .state) x n,
+      λ a. subst (λ (st : State). Asked st y) (sym c) (class-seen (class-given k d e) x (subst (λ (st : State). Needs st x) c n)),
+    )
 
     right-classifying : (p : Port) → p .state ≡ Classifying → Needs (p .state) x → Right y (classifying p (digest s))
     unfolding classifying enterIdle y

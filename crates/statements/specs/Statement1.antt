@@ -313,17 +313,18 @@ written-same f room k = go (writtenOf f room)
 pub statement-1 : First
 unfolding Kept KeptStatus
 statement-1 =
-    record
-      { cold = cold-out
-      ; control = control-out
-      ; status = status-out
-      ; asked = asked-out
-      ; ticked = ticked-out
-      ; searched = searched-out
-      ; read = read-out
-      ; written = written-out
-      ; control-kept = control-same
-      ; status-kept = status-same
-      ; asked-kept = asked-same
-      ; ticked-kept = ticked-same
-      ; written-kept = written-same }
+    record {
+      cold = cold-out;
+      control = control-out;
+      status = status-out;
+      asked = asked-out;
+      ticked = ticked-out;
+      searched = searched-out;
+      read = read-out;
+      written = written-out;
+      control-kept = control-same;
+      status-kept = status-same;
+      asked-kept = asked-same;
+      ticked-kept = ticked-same;
+      written-kept = written-same;
+    }

@@ -80,9 +80,10 @@ statement-3 n a b h block less more le e f =
     let few = well-count t (reached-well n a b h) in
     let l = ran t block less e in
     let m = ran t block more f in
-    record
-      { closes-more = λ p c. subst (λ (u : Table). closedAt u p ≡ true) (sym m) (more-closes t block few (tenths less) (tenths more) le p (subst (λ (u : Table). closedAt u p ≡ true) l c))
-      ; fits-less = subst (λ (u : Table). closedSum u ≤ less) (sym l) (closed-fits t block few (tenths less))
-      ; fits-more = subst (λ (u : Table). closedSum u ≤ more) (sym m) (closed-fits t block few (tenths more))
-      ; shown-less = closed-has-shown n a b (ticked block less ∷ h)
-      ; shown-more = closed-has-shown n a b (ticked block more ∷ h) }
+    record {
+      closes-more = λ p c. subst (λ (u : Table). closedAt u p ≡ true) (sym m) (more-closes t block few (tenths less) (tenths more) le p (subst (λ (u : Table). closedAt u p ≡ true) l c));
+      fits-less = subst (λ (u : Table). closedSum u ≤ less) (sym l) (closed-fits t block few (tenths less));
+      fits-more = subst (λ (u : Table). closedSum u ≤ more) (sym m) (closed-fits t block few (tenths more));
+      shown-less = closed-has-shown n a b (ticked block less ∷ h);
+      shown-more = closed-has-shown n a b (ticked block more ∷ h);
+    }

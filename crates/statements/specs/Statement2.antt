@@ -1,0 +1,147 @@
+-- The second statement. "Each port moves as document 01's diagram rules say, tick by tick, and the supply is shared by its rule. Power
+-- TLVs are read as IEEE 802.3 lays them out; what is written reads back as the same fields."
+-- Assumes nothing.
+use Prim.Native.Nat.{ℕ, _*_, _≤_, _<_}
+use mathlib.Core.Path.{_≡_, refl, sym, _∙_, ap, subst}
+use mathlib.Core.Bool.{true, _&&_, false≢true}
+use mathlib.Core.List.{List}
+use mathlib.Core.Logic.{⊎-elim}
+use native.Mathlib.Omega.{arith}
+use lib.Count.{ones}
+use lib.Dec.{ltb}
+use borrow.Author.Tests.{lt-ltb, le-ltb}
+use Rattle.lists.specs.Bits.{bit}
+use Rattle.lists.specs.Count.{mask, count, bit-mask}
+use Rattle.power.specs.Power.{tenths, forced}
+use Rattle.power.specs.declared.Power.{Power}
+use Rattle.reading.specs.Sample.{sampleAt}
+use Rattle.words.specs.Control.{pairOf}
+use Rattle.port.specs.Settle.{rank, settled}
+use Rattle.port.specs.Step.{step}
+use Rattle.port.specs.declared.form.Moved.{Moved}
+use Rattle.port.specs.declared.form.Port.{Port}
+use Rattle.share.specs.Share.{keeps}
+use Rattle.table.specs.Digest.{digest}
+use Rattle.table.specs.Form.{portAt}
+use Rattle.table.specs.Kept.{port-after-at, after-well, closed-number}
+use Rattle.table.specs.Laws.{well-count, count-after}
+use Rattle.table.specs.Tick.{movedAt, rankAt, claimAt, keptAt, portAfter, tableAfter, closedAt, namesA, namesB, maskA, maskB, answered, tick}
+use Rattle.table.specs.WellMade.{wellMade}
+use Rattle.table.specs.declared.form.Closed.{Closed}
+use Rattle.table.specs.declared.form.Closed.the-variants.{Ports, Refused}
+use Rattle.table.specs.declared.form.Table.{Table}
+use Rattle.table.specs.declared.form.Ticked.{Ticked}
+use Rattle.tlv.specs.Laws.{WrittenReads, ReadRewrites, FoundPower, TakenPower}
+use Rattle.tlv.proofs.Again.{read-rewrites}
+use Rattle.tlv.proofs.Back.{written-reads}
+use Rattle.tlv.proofs.Boundary.{found-power, taken-power}
+use Rattle.statements.specs.History.{accepted}
+use Rattle.statements.specs.Reached.{Stopped, Ran, tick-told, in-range}
+
+-- a port's own move on its own sample
+abbrev pub moves : Table → List ℕ → ℕ → Moved
+moves t block p = step forced (portAt t p) (digest (sampleAt block (14 * p)))
+
+-- what an accepted tick makes of a table
+pub record Ticks (t : Table) (block : List ℕ) (figure : ℕ) (after : Table) (answer : Closed) : Type 0 where
+  -- each port below the count moves by the diagram on its own sample, and settles by whether its claim is kept
+  pub moved : (p : ℕ) → p < t .count → portAt after p ≡ settled (rankAt t block p) (keptAt t block (tenths figure) p) (moves t block p)
+  -- its claim ranks by age, priority and number, and is kept while the sum of the demands down the ranking is at most the figure
+  pub ranked : (p : ℕ) → p < t .count → rankAt t block p ≡ rank (portAt t p .state) (moves t block p)
+  pub shared : (p : ℕ) → keptAt t block (tenths figure) p ≡ keeps 48 (rankAt t block) (λ q. claimAt t block q .0) figure p
+  pub claimed : (p : ℕ) → p < t .count → claimAt t block p ≡ moves t block p .port .demand
+  pub unclaimed : (p : ℕ) → t .count ≤ p → rankAt t block p ≡ 6
+  -- places past the count stay as they were
+  pub past : (p : ℕ) → p < 48 → t .count ≤ p → portAt after p ≡ portAt t p
+  pub same-count : after .count ≡ t .count
+  -- "The figure is then stored."
+  pub stored : after .supply ≡ tenths figure
+  -- "bit p set exactly if port p is closed and its control word names that alternative", and the number is that of the closed ports
+  pub answers : answer ≡ Ports (maskA after) (maskB after) (count 48 (closedAt after))
+  pub bit-a : (p : ℕ) → p < 48 → bit p (maskA after) ≡ (closedAt after p && namesA (pairOf (portAt after p .control)))
+  pub bit-b : (p : ℕ) → p < 48 → bit p (maskB after) ≡ (closedAt after p && namesB (pairOf (portAt after p .control)))
+
+pub record Second : Type 0 where
+  pub ticks : (t : Table) (block : List ℕ) (figure : ℕ) → accepted (tick t block figure .answer) ≡ true → Ticks t block figure (tick t block figure .table) (tick t block figure .answer)
+  -- "Whatever is written reads back as written; bytes that read, with 3:2 zero, are rewritten the same."
+  pub reads-back : WrittenReads
+  pub rewrites : ReadRewrites
+  -- the search hands back one whole power TLV, which starts at a boundary of the walk; the reader takes one whole power TLV alone
+  pub finds : FoundPower
+  pub takes : TakenPower
+
+module _ (t : Table) (block : List ℕ) (figure : ℕ) where
+  rank-here : (p : ℕ) → p < t .count → rankAt t block p ≡ rank (portAt t p .state) (moves t block p)
+  unfolding rankAt movedAt
+  rank-here p l = simp (lt-ltb p (t .count) l)
+
+  rank-past : (p : ℕ) → t .count ≤ p → rankAt t block p ≡ 6
+  unfolding rankAt
+  rank-past p l = simp (le-ltb p (t .count) l)
+
+  claim-here : (p : ℕ) → p < t .count → claimAt t block p ≡ moves t block p .port .demand
+  unfolding claimAt movedAt
+  claim-here p l = simp (lt-ltb p (t .count) l)
+
+  kept-here : (p : ℕ) → keptAt t block (tenths figure) p ≡ keeps 48 (rankAt t block) (λ q. claimAt t block q .0) figure p
+  unfolding keptAt
+  kept-here p = refl
+
+  port-here : (p : ℕ) → p < t .count → portAfter t block (tenths figure) p ≡ settled (rankAt t block p) (keptAt t block (tenths figure) p) (moves t block p)
+  unfolding portAfter movedAt
+  port-here p l = simp (lt-ltb p (t .count) l)
+
+  port-past : (p : ℕ) → t .count ≤ p → portAfter t block (tenths figure) p ≡ portAt t p
+  unfolding portAfter
+  port-past p l = simp (le-ltb p (t .count) l)
+
+bits-a : (u : Table) (p : ℕ) → p < 48 → bit p (maskA u) ≡ (closedAt u p && namesA (pairOf (portAt u p .control)))
+unfolding maskA
+bits-a u p l = bit-mask 48 (λ q. closedAt u q && namesA (pairOf (portAt u q .control))) p l
+
+bits-b : (u : Table) (p : ℕ) → p < 48 → bit p (maskB u) ≡ (closedAt u p && namesB (pairOf (portAt u p .control)))
+unfolding maskB
+bits-b u p l = bit-mask 48 (λ q. closedAt u q && namesB (pairOf (portAt u q .control))) p l
+
+answered-table : (u : Table) → answered u .table ≡ u
+unfolding answered
+answered-table u = refl
+
+supply-after : (t : Table) (block : List ℕ) (supply : Power) → tableAfter t block supply .supply ≡ supply
+unfolding tableAfter
+supply-after t block supply = refl
+
+-- what a tick that ran leaves
+ran-ticks : (t : Table) (block : List ℕ) (figure : ℕ) → wellMade t ≡ true → figure ≤ 60000
+    → Ticks t block figure (tableAfter t block (tenths figure)) (answered (tableAfter t block (tenths figure)) .answer)
+unfolding answered
+ran-ticks t block figure m f =
+    let u = tableAfter t block (tenths figure) in
+    let w = after-well t block (tenths figure) m (in-range figure f) in
+    record {
+      moved = λ p l. port-after-at t block (tenths figure) p (omega (arith, well-count t m)) ∙ port-here t block figure p l;
+      ranked = rank-here t block figure;
+      shared = kept-here t block figure;
+      claimed = claim-here t block figure;
+      unclaimed = rank-past t block figure;
+      past = λ p l g. port-after-at t block (tenths figure) p l ∙ port-past t block figure p g;
+      same-count = count-after t block (tenths figure);
+      stored = supply-after t block (tenths figure);
+      answers = ap (Ports (maskA u) (maskB u)) (closed-number u w);
+      bit-a = bits-a u;
+      bit-b = bits-b u;
+    }
+
+ticks-so : (t : Table) (block : List ℕ) (figure : ℕ) → accepted (tick t block figure .answer) ≡ true → Ticks t block figure (tick t block figure .table) (tick t block figure .answer)
+ticks-so t block figure e =
+    ⊎-elim
+    (λ (x : Stopped t (tick t block figure)). absurd (false≢true (sym (x .answer) ∙ e)))
+    (λ (x : Ran t block figure (tick t block figure)).
+    subst (λ (r : Ticked). Ticks t block figure (r .table) (r .answer)) (sym (x .whole)) (answered-ticks (x .well) (x .figure-in-range)))
+    (tick-told t block figure)
+  where
+    answered-ticks : wellMade t ≡ true → figure ≤ 60000 → Ticks t block figure (answered (tableAfter t block (tenths figure)) .table) (answered (tableAfter t block (tenths figure)) .answer)
+    answered-ticks m f = subst (λ (u : Table). Ticks t block figure u (answered (tableAfter t block (tenths figure)) .answer)) (sym (answered-table (tableAfter t block (tenths figure)))) (ran-ticks t block figure m f)
+
+pub statement-2 : Second
+statement-2 = record { ticks = ticks-so; reads-back = written-reads; rewrites = read-rewrites; finds = found-power; takes = taken-power }
