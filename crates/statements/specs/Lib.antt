@@ -9,3 +9,4 @@ pub mod Shows
 pub mod Statement1
 pub mod Statement2
 pub mod Statement3
+pub mod Unique

@@ -1,0 +1,165 @@
+-- One possible answer: for each public function of the core, two results that obey its promise are equal. The promise stands here in the
+-- words of the source up to names, with what a slice holds on entry by the slice's name and on exit by the name with a prime; `tools/public` reads the
+-- public functions off the sources, and fails if one is missing here or promises something else.
+-- Assumes nothing.
+use Prim.Native.Nat.{ℕ}
+use mathlib.Core.Path.{_≡_, refl, sym, _∙_, subst}
+use mathlib.Core.Bool.{Bool}
+use mathlib.Core.List.{List}
+use lib.ListN.{take, drop}
+use Rattle.lists.specs.Places.{tabulate}
+use Rattle.power.specs.Power.{atMost, same, supplyOf, plus, join as joinSums, fits}
+use Rattle.power.specs.declared.Power.{Power}
+use Rattle.power.specs.declared.Sum.{Sum}
+use Rattle.power.specs.declared.Supply.{Supply}
+use Rattle.reading.specs.Class.{classOf, classOfTwo, budgetOf, isDemand}
+use Rattle.reading.specs.Sample.{sampleOf, reservedFlags, flagsOf}
+use Rattle.reading.specs.Signature.{signatureOf}
+use Rattle.reading.specs.declared.class.Class.{Class}
+use Rattle.reading.specs.declared.sample.Flags.{Flags}
+use Rattle.reading.specs.declared.sample.Sampled.{Sampled}
+use Rattle.reading.specs.declared.signature.Signature.{Signature}
+use Rattle.words.specs.Control.{enableOf, pairOf, priorityOf, controlOf, wordOf, refused}
+use Rattle.words.specs.Status.{join as joinLatches, statusWord}
+use Rattle.words.specs.declared.control.Control.{Control}
+use Rattle.words.specs.declared.control.Enable.{Enable}
+use Rattle.words.specs.declared.control.Pair.{Pair}
+use Rattle.words.specs.declared.control.Priority.{Priority}
+use Rattle.words.specs.declared.status.Condition.{Condition}
+use Rattle.words.specs.declared.status.Latches.{Latches}
+use Rattle.port.specs.Settle.{closed, rank, settled}
+use Rattle.port.specs.Step.{step}
+use Rattle.port.specs.declared.form.Moved.{Moved}
+use Rattle.port.specs.declared.form.Port.{Port}
+use Rattle.port.specs.declared.form.Reading.{Reading}
+use Rattle.port.specs.declared.form.State.{State}
+use Rattle.share.specs.Given.{rankOf, demandOf}
+use Rattle.share.specs.Share.{keeps}
+use Rattle.share.specs.declared.Claims.{Claims}
+use Rattle.table.specs.Calls.{coldStart, writeControl, readStatus, request}
+use Rattle.table.specs.Tick.{tick}
+use Rattle.table.specs.declared.form.StatusRead.{StatusRead}
+use Rattle.table.specs.declared.form.Table.{Table}
+use Rattle.table.specs.declared.form.Ticked.{Ticked}
+use Rattle.table.specs.declared.form.Told.{Told}
+use Rattle.tlv.specs.Fields.{badValues}
+use Rattle.tlv.specs.Read.{readOf}
+use Rattle.tlv.specs.Search.{searchOf}
+use Rattle.tlv.specs.Walk.{stepOf}
+use Rattle.tlv.specs.Write.{writtenOf, roomAfter}
+use Rattle.tlv.specs.declared.fields.Fields.{Fields}
+use Rattle.tlv.specs.declared.fields.Form.{Form}
+use Rattle.tlv.specs.declared.read.Taken.{Taken}
+use Rattle.tlv.specs.declared.search.Searched.{Searched}
+use Rattle.tlv.specs.declared.walk.Step.{Step}
+use Rattle.tlv.specs.declared.write.Written.{Written}
+
+-- two results that obey the promise are equal
+abbrev pub One : (A : Type 0) → (A → Type 0) → Type 0
+One A promise = (r s : A) → promise r → promise s → r ≡ s
+
+-- the same of a result and what a lent buffer then holds
+abbrev pub OneWith : (A B : Type 0) → (A → B → Type 0) → Type 0
+OneWith A B promise = (r s : A) (b c : B) → promise r b → promise s c → (r ≡ s) × (b ≡ c)
+
+-- a walker: the bytes that it was lent, and its position
+pub record Walker : Type 0 where
+  pub pdu : List ℕ
+  pub at : ℕ
+
+pub record Unique : Type 0 where
+  pub power-at-most : (self other : Power) → One Bool (λ r. r ≡ atMost self other)
+  pub power-same : (self other : Power) → One Bool (λ r. r ≡ same self other)
+  pub power-supply : (figure : ℕ) → One Supply (λ r. r ≡ supplyOf figure)
+  pub power-plus : (self : Sum) (a : Power) → One Sum (λ r. r ≡ plus self a)
+  pub power-join : (self other : Sum) → One Sum (λ r. r ≡ joinSums self other)
+  pub power-fits : (self : Sum) (s : Power) → One Bool (λ r. r ≡ fits self s)
+  pub reading-class-class-of : (current : ℕ) → One Class (λ r. r ≡ classOf current)
+  pub reading-class-class-of-two : (c1 c2 : ℕ) → One Class (λ r. r ≡ classOfTwo c1 c2)
+  pub reading-class-budget : (c : ℕ) → One Power (λ r. r ≡ budgetOf c)
+  pub reading-class-is-demand : (d : Power) → One Bool (λ r. r ≡ isDemand d)
+  pub reading-sample-sample-of : (block : List ℕ) (p : ℕ) → One Sampled (λ r. r ≡ sampleOf block p)
+  pub reading-sample-reserved-flags : (word : ℕ) → One Bool (λ r. r ≡ reservedFlags word)
+  pub reading-sample-flags-of : (word : ℕ) → One Flags (λ r. r ≡ flagsOf word)
+  pub reading-signature-signature-of : (v1 v2 i1 i2 : ℕ) → One Signature (λ r. r ≡ signatureOf v1 v2 i1 i2)
+  pub words-control-enable-of : (word : ℕ) → One Enable (λ r. r ≡ enableOf word)
+  pub words-control-pair-of : (word : ℕ) → One Pair (λ r. r ≡ pairOf word)
+  pub words-control-priority-of : (word : ℕ) → One Priority (λ r. r ≡ priorityOf word)
+  pub words-control-control-of : (word : ℕ) → One Control (λ r. r ≡ controlOf word)
+  pub words-control-word-of : (c : Control) → One ℕ (λ r. r ≡ wordOf c)
+  pub words-control-refused : (word : ℕ) → One Bool (λ r. r ≡ refused word)
+  pub words-status-join : (self more : Latches) → One Latches (λ r. r ≡ joinLatches self more)
+  pub words-status-status-word : (l : Latches) (c : ℕ) (k : Condition) → One ℕ (λ r. r ≡ statusWord l c k)
+  pub port-step-step : (claim : Power) (p : Port) (reading : Reading) → One Moved (λ r. r ≡ step claim p reading)
+  pub port-settle-is-closed : (state : State) → One Bool (λ r. r ≡ closed state)
+  pub port-settle-rank-of : (before : State) (moved : Moved) → One ℕ (λ r. r ≡ rank before moved)
+  pub port-settle-settled-port : (rank : ℕ) (kept : Bool) (moved : Moved) → One Port (λ r. r ≡ settled rank kept moved)
+  pub share-kept : (claims : Claims) (s : Power) → One (List Bool) (λ r. r ≡ tabulate 48 (keeps 48 (rankOf claims) (demandOf claims) (s .0)))
+  pub table-calls-cold-start : (ports : ℕ) → One Told (λ r. r ≡ coldStart ports)
+  pub table-calls-write-control : (t : Table) (p word : ℕ) → One Told (λ r. r ≡ writeControl t p word)
+  pub table-calls-read-status : (t : Table) (p : ℕ) → One StatusRead (λ r. r ≡ readStatus t p)
+  pub table-calls-request : (t : Table) (p value : ℕ) → One Told (λ r. r ≡ request t p value)
+  pub table-tick-tick : (t : Table) (block : List ℕ) (figure : ℕ) → One Ticked (λ r. r ≡ tick t block figure)
+  pub tlv-fields-bad-values : (f : Form) → One Bool (λ r. r ≡ badValues f)
+  pub tlv-read-read : (bytes : List ℕ) → One Taken (λ r. r ≡ readOf bytes)
+  pub tlv-search-search : (pdu : List ℕ) → One Searched (λ r. r ≡ searchOf pdu)
+  -- of the part that is handed back, its bytes
+  pub tlv-search-part : (pdu : List ℕ) (start size : ℕ) → One (List ℕ) (λ r. r ≡ take size (drop start pdu))
+  pub tlv-walk-new : (pdu : List ℕ) (at : ℕ) → One Walker (λ r. (r .pdu ≡ pdu) × (r .at ≡ at))
+  pub tlv-walk-here : (w : Walker) → One Step (λ s. s ≡ stepOf (w .pdu) (w .at))
+  pub tlv-walk-tlv-at : (pdu : List ℕ) (at : ℕ) → One Step (λ s. s ≡ stepOf pdu at)
+  pub tlv-write-write : (f : Fields) (room : List ℕ) → OneWith Written (List ℕ) (λ r room'. (r ≡ writtenOf f room) × (room' ≡ roomAfter f room))
+
+one : (A : Type 0) (d : A) → One A (λ r. r ≡ d)
+one A d r s p q = p ∙ sym q
+
+walker : (pdu : List ℕ) (at : ℕ) → One Walker (λ r. (r .pdu ≡ pdu) × (r .at ≡ at))
+walker pdu at r s p q = subst (λ x. r ≡ record { pdu = x; at = s .at }) (p .0 ∙ sym (q .0)) (subst (λ x. r ≡ record { pdu = r .pdu; at = x }) (p .1 ∙ sym (q .1)) refl)
+
+with-room : (A B : Type 0) (d : A) (e : B) → OneWith A B (λ r b. (r ≡ d) × (b ≡ e))
+with-room A B d e r s b c p q = (p .0 ∙ sym (q .0), p .1 ∙ sym (q .1))
+
+pub unique : Unique
+unique =
+    record {
+      power-at-most = λ self other. one Bool (atMost self other);
+      power-same = λ self other. one Bool (same self other);
+      power-supply = λ figure. one Supply (supplyOf figure);
+      power-plus = λ self a. one Sum (plus self a);
+      power-join = λ self other. one Sum (joinSums self other);
+      power-fits = λ self s. one Bool (fits self s);
+      reading-class-class-of = λ current. one Class (classOf current);
+      reading-class-class-of-two = λ c1 c2. one Class (classOfTwo c1 c2);
+      reading-class-budget = λ c. one Power (budgetOf c);
+      reading-class-is-demand = λ d. one Bool (isDemand d);
+      reading-sample-sample-of = λ block p. one Sampled (sampleOf block p);
+      reading-sample-reserved-flags = λ word. one Bool (reservedFlags word);
+      reading-sample-flags-of = λ word. one Flags (flagsOf word);
+      reading-signature-signature-of = λ v1 v2 i1 i2. one Signature (signatureOf v1 v2 i1 i2);
+      words-control-enable-of = λ word. one Enable (enableOf word);
+      words-control-pair-of = λ word. one Pair (pairOf word);
+      words-control-priority-of = λ word. one Priority (priorityOf word);
+      words-control-control-of = λ word. one Control (controlOf word);
+      words-control-word-of = λ c. one ℕ (wordOf c);
+      words-control-refused = λ word. one Bool (refused word);
+      words-status-join = λ self more. one Latches (joinLatches self more);
+      words-status-status-word = λ l c k. one ℕ (statusWord l c k);
+      port-step-step = λ claim p reading. one Moved (step claim p reading);
+      port-settle-is-closed = λ state. one Bool (closed state);
+      port-settle-rank-of = λ before moved. one ℕ (rank before moved);
+      port-settle-settled-port = λ rank kept moved. one Port (settled rank kept moved);
+      share-kept = λ claims s. one (List Bool) (tabulate 48 (keeps 48 (rankOf claims) (demandOf claims) (s .0)));
+      table-calls-cold-start = λ ports. one Told (coldStart ports);
+      table-calls-write-control = λ t p word. one Told (writeControl t p word);
+      table-calls-read-status = λ t p. one StatusRead (readStatus t p);
+      table-calls-request = λ t p value. one Told (request t p value);
+      table-tick-tick = λ t block figure. one Ticked (tick t block figure);
+      tlv-fields-bad-values = λ f. one Bool (badValues f);
+      tlv-read-read = λ bytes. one Taken (readOf bytes);
+      tlv-search-search = λ pdu. one Searched (searchOf pdu);
+      tlv-search-part = λ pdu start size. one (List ℕ) (take size (drop start pdu));
+      tlv-walk-new = λ pdu at. walker pdu at;
+      tlv-walk-here = λ w. one Step (stepOf (w .pdu) (w .at));
+      tlv-walk-tlv-at = λ pdu at. one Step (stepOf pdu at);
+      tlv-write-write = λ f room. with-room Written (List ℕ) (writtenOf f room) (roomAfter f room);
+    }
