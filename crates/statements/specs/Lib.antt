@@ -10,3 +10,4 @@ pub mod Statement1
 pub mod Statement2
 pub mod Statement3
 pub mod Unique
+pub mod WrongCores
