@@ -10,4 +10,5 @@ pub mod Statement1
 pub mod Statement2
 pub mod Statement3
 pub mod Unique
+pub mod Weaker
 pub mod WrongCores

@@ -1,0 +1,88 @@
+-- Attacks on the third statement itself: it speaks of something, and the weaker or turned statements that could be mistaken for it are
+-- not it. They are shown on one history: a cold start of one port, its enabling, two ticks to DETECTING, and a tick with a valid
+-- signature; then the port gives class 1, with 15.4 W or with nothing to share.
+-- Assumes nothing.
+use Prim.Native.Nat.{ℕ, _≤_}
+use mathlib.Core.Path.{_≡_, refl, sym, _∙_, subst}
+use mathlib.Core.Bool.{Bool, true, false, false≢true}
+use mathlib.Core.List.{List, [], _∷_}
+use native.Mathlib.Omega.{arith}
+use Rattle.lists.specs.Bits.{bit, above, field}
+use Rattle.lists.specs.Every.{every}
+use Rattle.lists.specs.Places.{tabulate}
+use Rattle.lists.specs.Table.{some}
+use Rattle.lists.specs.Total.{total}
+use Rattle.power.specs.Power.{atMost, supplyOf}
+use Rattle.reading.specs.Class.{classOf, isFour, classOfTwo, budgetOf, isDemand}
+use Rattle.reading.specs.Sample.{wordAt, sampleAt, reservedFlags, flagsOf}
+use Rattle.reading.specs.declared.sample.Sample.{Sample}
+use Rattle.reading.specs.Signature.{outside, byDifferences, signatureOf}
+use Rattle.words.specs.Control.{enableOf, pairOf, priorityOf, refused}
+use Rattle.words.specs.Status.{join}
+use Rattle.port.specs.Entry.{up, enterIdle, enterDetecting, enterClassifying, enterPowerUp}
+use Rattle.port.specs.Rules.{idle, detected, detecting, classed, classifying}
+use Rattle.port.specs.Settle.{rank, granted, shed, settled}
+use Rattle.port.specs.Step.{byState, step}
+use Rattle.share.specs.Share.{claims, before, met, sumWhere, down, keeps}
+use Rattle.table.specs.Calls.{coldTable, coldStart, writeControl, controlled, withControl, draws, closedSum}
+use Rattle.table.specs.Digest.{digest}
+use Rattle.table.specs.Form.{portAt, withPort, done, refuse, refuseTick}
+use Rattle.table.specs.Tick.{movedAt, rankAt, claimAt, keptAt, portAfter, tableAfter, closedAt, flagsTaken, tickWith, answered, tick}
+use Rattle.table.specs.declared.form.Table.{Table}
+use Rattle.table.specs.WellMade.{wellCounts, wellPort, wellMade}
+use Rattle.statements.specs.History.{Call, control, ticked, after, reached, isIdle, showsSignature, givesClass, Shown, nothing, signature, both, seen, adds, shown}
+
+-- no flag; a valid signature; class 1
+unfoldable pub quiet : List ℕ
+quiet = 0 ∷ 0 ∷ 0 ∷ 0 ∷ 0 ∷ 0 ∷ 0 ∷ 0 ∷ 0 ∷ 0 ∷ 0 ∷ 0 ∷ 0 ∷ 0 ∷ []
+
+-- V1 4,000, V2 6,500, I1 100, I2 200
+unfoldable pub signs : List ℕ
+signs = 15 ∷ 160 ∷ 25 ∷ 100 ∷ 0 ∷ 100 ∷ 0 ∷ 200 ∷ 0 ∷ 0 ∷ 0 ∷ 0 ∷ 0 ∷ 1 ∷ []
+
+unfoldable pub gives : List ℕ
+gives = 0 ∷ 0 ∷ 0 ∷ 0 ∷ 0 ∷ 0 ∷ 0 ∷ 0 ∷ 39 ∷ 16 ∷ 0 ∷ 0 ∷ 0 ∷ 2 ∷ []
+
+unfoldable pub signed : List Call
+signed = ticked signs 154 ∷ ticked quiet 154 ∷ ticked quiet 154 ∷ control 0 0x0005 ∷ []
+
+-- the table after the last tick, under a figure
+abbrev pub under : ℕ → Table
+under figure = tick (reached 1 signed) gives figure .table
+
+pub record Facts : Type 0 where
+  -- the statement is not empty: this history closes the port, which has shown both
+  pub waits : shown 1 0 signed ≡ signature
+  pub closes : closedAt (under 154) 0 ≡ true
+  pub shows-both : shown 1 0 (ticked gives 154 ∷ signed) ≡ both
+  pub adds-up : closedSum (under 154) ≡ 40
+  -- a tick that shows nothing forgets nothing
+  pub remembers : shown 1 0 (ticked quiet 154 ∷ signed) ≡ signature
+  -- with nothing to share the port goes back to IDLE, and what it showed before counts no more
+  pub opens : closedAt (under 0) 0 ≡ false
+  pub forgets : shown 1 0 (ticked gives 0 ∷ signed) ≡ nothing
+
+pub facts : Facts
+unfolding quiet signs gives signed reached after shown adds seen showsSignature givesClass coldStart coldTable done writeControl controlled withControl withPort wellMade atMost every portAt wellPort wellCounts refused field above isDemand some flagsTaken reservedFlags sampleAt wordAt tick tickWith supplyOf answered tableAfter tabulate portAfter digest flagsOf bit signatureOf outside byDifferences classOfTwo isFour classOf budgetOf step byState enableOf pairOf up idle detected detecting classifying classed rankAt movedAt rank priorityOf keptAt claimAt keeps claims down sumWhere total met before settled granted enterIdle enterDetecting enterClassifying enterPowerUp shed closedSum draws closedAt
+facts = record { waits = refl; closes = refl; shows-both = refl; adds-up = refl; remembers = refl; opens = refl; forgets = refl }
+
+-- the masks compared the other way round: false of our core
+pub turned-round : ((p : ℕ) → closedAt (under 154) p ≡ true → closedAt (under 0) p ≡ true) → ⊥
+turned-round turned = false≢true (sym (facts .opens) ∙ turned 0 (facts .closes))
+
+-- the sum bounded by 60,000 in place of the figure: a core that left this port closed under 3.9 W would pass it, and not ours
+pub passes-60000 : closedSum (under 154) ≤ 60000
+passes-60000 = subst (λ n. n ≤ 60000) (sym (facts .adds-up)) (omega arith)
+
+pub over-the-figure : closedSum (under 154) ≤ 39 → ⊥
+over-the-figure l = omega (arith, subst (λ n. n ≤ 39) (facts .adds-up) l)
+
+-- "since it last stood in IDLE": a port that stands there has shown nothing
+pub idle-has-shown-nothing : (n p : ℕ) (c : Call) (h : List Call) → isIdle (portAt (reached n (c ∷ h)) p .state) ≡ true → shown n p (c ∷ h) ≡ nothing
+unfolding shown
+idle-has-shown-nothing n p c h e = simp e
+
+-- no call but an accepted tick in which a class is given, or one that ends in IDLE, changes that a signature was shown
+pub signature-stays : (s : Sample) → givesClass s ≡ false → seen s signature ≡ signature
+unfolding seen
+signature-stays s e = simp e
