@@ -2,6 +2,7 @@ pub mod Cases
 pub mod Diagram
 pub mod History
 pub mod Limits
+pub mod Moves
 pub mod Reached
 pub mod Rows
 pub mod Shared

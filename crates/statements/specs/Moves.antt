@@ -1,0 +1,279 @@
+-- Document 01, "The port's move in one tick" and "Sharing the supply": rows of our own, each rule at its limit and one short of it. They
+-- are of the definitions themselves, so that a limit or a way that is wrong in a definition and in the code alike is refused.
+-- Assumes nothing.
+use Prim.Native.Nat.{ℕ}
+use mathlib.Core.Path.{_≡_, refl}
+use mathlib.Core.Bool.{Bool, true, false}
+use mathlib.Core.List.{List, [], _∷_, map}
+use Rattle.lists.specs.Bits.{field}
+use Rattle.power.specs.Power.{tenths, forced}
+use Rattle.words.specs.Control.{enableOf, pairOf, priorityOf}
+use Rattle.words.specs.Status.{noLatches, join}
+use Rattle.words.specs.declared.status.Latches.{Latches}
+use Rattle.port.specs.Entry.{up, during, enterIdle, enterDisabled, enterDetecting, enterBackoff, enterErrorDelay, enterClassifying, enterPowerUp, enterPowerOn, enterTestMode, enterTestError}
+use Rattle.port.specs.Form.{latchDenied, latchValid, latchInvalid, latchShort, latchOverload, latchAbsent}
+use Rattle.port.specs.Rules.{idle, detected, detecting, backoff, errorDelay, classed, classifying, stressed, watched, risen, powerUp, powerOn, testMode, testError}
+use Rattle.port.specs.Settle.{rank, granted, shed, settled}
+use Rattle.port.specs.Step.{byState, step}
+use Rattle.port.specs.declared.form.Classing.{Classing}
+use Rattle.port.specs.declared.form.Classing.the-variants.{NotDone as NotClassed, Failed, Is}
+use Rattle.port.specs.declared.form.Counts.{Counts}
+use Rattle.port.specs.declared.form.Detection.{Detection}
+use Rattle.port.specs.declared.form.Detection.the-variants.{NotDone, Valid, Invalid, Open}
+use Rattle.port.specs.declared.form.Moved.{Moved}
+use Rattle.port.specs.declared.form.Port.{Port}
+use Rattle.port.specs.declared.form.Reading.{Reading}
+use Rattle.port.specs.declared.form.State.{State}
+use Rattle.port.specs.declared.form.State.the-variants.{Disabled, Idle, Detecting, Backoff, Classifying, PowerUp, PowerOn, ErrorDelay, TestMode, TestError}
+
+-- what a sample reads: nothing is done and a load is present, but for what is named
+abbrev reads : Detection → Classing → Bool → Bool → Bool → Bool → Reading
+reads d k settles limits overloads load = record { detection = d; class = k; settled = settles; limiting = limits; overload = overloads; load = load }
+
+abbrev quiet : Reading
+quiet = reads NotDone NotClassed false false false true
+
+abbrev detects : Detection → Reading
+detects d = reads d NotClassed false false false true
+
+abbrev gives : Classing → Reading
+gives k = reads NotDone k false false false true
+
+abbrev settling : Reading
+settling = reads NotDone NotClassed true false false true
+
+abbrev limits : Reading
+limits = reads NotDone NotClassed false true false true
+
+abbrev overloads : Reading
+overloads = reads NotDone NotClassed false false true true
+
+abbrev does-both : Reading
+does-both = reads NotDone NotClassed true true true true
+
+abbrev unloaded : Reading
+unloaded = reads NotDone NotClassed false false false false
+
+-- control words on alternative A with enable 00, 01, 10 and 11, and on alternative B with enable 01
+abbrev off : ℕ
+off = 0x0004
+
+abbrev on : ℕ
+on = 0x0005
+
+abbrev force : ℕ
+force = 0x0006
+
+abbrev reserved : ℕ
+reserved = 0x0007
+
+abbrev on-b : ℕ
+on-b = 0x0009
+
+-- a port of class 2 in a state, with a control word, and with every counter at one number
+abbrev port : State → ℕ → ℕ → Port
+port s w n =
+    record {
+      state = s;
+      class = 2;
+      control = w;
+      demand = tenths 70;
+      latches = noLatches;
+      counts = record { detection = n; backoff = n; «error_delay» = n; «power_on» = n; limiting = n; overload = n; «no_load» = n };
+    }
+
+-- a row's question
+pub data Before : Type 0 where
+  from : State → ℕ → ℕ → Reading → Before
+
+-- where a port goes, with which class and demand; what it latches; whether it asks
+pub record Goes : Type 0 where
+  pub state : State
+  pub class : ℕ
+  pub demand : ℕ
+  pub latched : Latches
+  pub asks : Bool
+
+abbrev told : Moved → Goes
+told m = record { state = m .port .state; class = m .port .class; demand = m .port .demand .0; latched = m .latched; asks = m .asks }
+
+unfoldable pub move : Before → Goes
+move (from s w n r) = told (step forced (port s w n) r)
+
+-- it goes to a state and keeps class and demand; to an open one that has no demand; the same with a latch
+abbrev to : State → Goes
+to s = record { state = s; class = 2; demand = 70; latched = noLatches; asks = false }
+
+abbrev to-idle : Goes
+to-idle = record { state = Idle; class = 2; demand = 0; latched = noLatches; asks = false }
+
+abbrev to-disabled : Goes
+to-disabled = record { state = Disabled; class = 2; demand = 0; latched = noLatches; asks = false }
+
+abbrev latches : Latches → State → Goes
+latches l s = record { state = s; class = 2; demand = 70; latched = l; asks = false }
+
+abbrev idle-with : Latches → Goes
+idle-with l = record { state = Idle; class = 2; demand = 0; latched = l; asks = false }
+
+pub rows : List (Before × Goes)
+rows =
+    -- "First, in every state: enable 00 goes to DISABLED."
+    (from Disabled off 0 quiet, to-disabled)
+    ∷ (from Idle off 0 quiet, to-disabled)
+    ∷ (from Detecting off 499 (detects Valid), to-disabled)
+    ∷ (from Backoff off 1999 quiet, to-disabled)
+    ∷ (from Classifying off 0 (gives (Is 1 (tenths 40))), to-disabled)
+    ∷ (from PowerUp off 59 limits, to-disabled)
+    ∷ (from PowerOn off 59 limits, to-disabled)
+    ∷ (from ErrorDelay off 749 quiet, to-disabled)
+    ∷ (from TestMode off 59 limits, to-disabled)
+    ∷ (from TestError off 0 quiet, to-disabled)
+    -- "Next, enable 10 sends DETECTING, CLASSIFYING, POWER_UP and POWER_ON to IDLE."
+    ∷ (from Detecting force 0 (detects Valid), to-idle)
+    ∷ (from Classifying force 0 (gives (Is 1 (tenths 40))), to-idle)
+    ∷ (from PowerUp force 59 limits, to-idle)
+    ∷ (from PowerOn force 59 limits, to-idle)
+    ∷ (from Backoff force 0 quiet, to Backoff)
+    ∷ (from ErrorDelay force 0 quiet, to ErrorDelay)
+    -- "DISABLED goes to IDLE."
+    ∷ (from Disabled on 0 quiet, to-idle)
+    ∷ (from Disabled force 0 quiet, to-idle)
+    -- "IDLE: enable 01 to DETECTING, class set to 0; enable 10 asks for TEST_MODE, demand 154."; 11 forces nothing
+    ∷ (from Idle on 0 quiet, record { state = Detecting; class = 0; demand = 70; latched = noLatches; asks = false })
+    ∷ (from Idle force 0 quiet, record { state = Idle; class = 2; demand = 154; latched = noLatches; asks = true })
+    ∷ (from Idle reserved 0 quiet, to Idle)
+    -- "DETECTING: at 500 to IDLE. Else if detection is done": a result in the tick that reaches 500 is not taken
+    ∷ (from Detecting on 498 quiet, to Detecting)
+    ∷ (from Detecting on 499 quiet, to-idle)
+    ∷ (from Detecting on 498 (detects Valid), latches latchValid Classifying)
+    ∷ (from Detecting on 499 (detects Valid), to-idle)
+    ∷ (from Detecting on 0 (detects Invalid), idle-with latchInvalid)
+    ∷ (from Detecting on 0 (detects Open), idle-with latchInvalid)
+    ∷ (from Detecting on-b 0 (detects Invalid), latches latchInvalid Backoff)
+    ∷ (from Detecting on-b 0 (detects Open), idle-with latchInvalid)
+    -- "BACKOFF: at 2,000 to IDLE. ERROR_DELAY: at 750 to IDLE."
+    ∷ (from Backoff on 1998 quiet, to Backoff)
+    ∷ (from Backoff on 1999 quiet, to-idle)
+    ∷ (from ErrorDelay on 748 quiet, to ErrorDelay)
+    ∷ (from ErrorDelay on 749 quiet, to-idle)
+    -- "CLASSIFYING: at 400 to IDLE. Else if class is done: failure to IDLE; a class sets class and demand, and asks for POWER_UP."
+    ∷ (from Classifying on 398 quiet, to Classifying)
+    ∷ (from Classifying on 399 quiet, to-idle)
+    ∷ (from Classifying on 399 (gives (Is 3 (tenths 154))), to-idle)
+    ∷ (from Classifying on 398 (gives Failed), to-idle)
+    ∷ (from Classifying on 398 (gives (Is 3 (tenths 154))), record { state = Classifying; class = 3; demand = 154; latched = noLatches; asks = true })
+    -- "60 of limiting latches 9, else 60 of overload latches 8; both go to ERROR_DELAY and end the move."
+    ∷ (from PowerUp on 58 does-both, to PowerOn)
+    ∷ (from PowerUp on 59 limits, latches latchShort ErrorDelay)
+    ∷ (from PowerUp on 59 overloads, latches latchOverload ErrorDelay)
+    ∷ (from PowerUp on 59 does-both, latches latchShort ErrorDelay)
+    ∷ (from PowerUp on 399 does-both, latches latchShort ErrorDelay)
+    ∷ (from PowerUp on 59 quiet, to PowerUp)
+    ∷ (from PowerOn on 58 does-both, to PowerOn)
+    ∷ (from PowerOn on 59 limits, latches latchShort ErrorDelay)
+    ∷ (from PowerOn on 59 overloads, latches latchOverload ErrorDelay)
+    ∷ (from PowerOn on 319 does-both, latches latchShort ErrorDelay)
+    -- "in POWER_UP, the power-on counter runs on: at 400 to IDLE; else settled goes to POWER_ON."
+    ∷ (from PowerUp on 398 quiet, to PowerUp)
+    ∷ (from PowerUp on 398 settling, to PowerOn)
+    ∷ (from PowerUp on 399 settling, to-idle)
+    -- "In POWER_ON 320 consecutive ticks without load .. latch 7 and go to IDLE."
+    ∷ (from PowerOn on 318 unloaded, to PowerOn)
+    ∷ (from PowerOn on 319 unloaded, idle-with latchAbsent)
+    ∷ (from PowerOn on 319 quiet, to PowerOn)
+    ∷ (from PowerOn on 399 settling, to PowerOn)
+    -- "TEST_MODE: enable not 10 to IDLE; else the same two counts .. go to TEST_ERROR. TEST_ERROR: enable not 10 to IDLE."
+    ∷ (from TestMode on 59 limits, to-idle)
+    ∷ (from TestMode force 58 does-both, to TestMode)
+    ∷ (from TestMode force 59 limits, latches latchShort TestError)
+    ∷ (from TestMode force 59 overloads, latches latchOverload TestError)
+    ∷ (from TestMode force 59 does-both, latches latchShort TestError)
+    ∷ (from TestMode force 1999 unloaded, to TestMode)
+    ∷ (from TestError on 0 quiet, to-idle)
+    ∷ (from TestError force 0 limits, to TestError)
+    ∷ []
+
+pub rows-hold : map (λ (r : Before × Goes). move (r .0)) rows ≡ map (λ (r : Before × Goes). r .1) rows
+unfolding rows move step byState enableOf pairOf field up during idle detected detecting backoff errorDelay classed classifying stressed watched risen powerUp powerOn testMode testError enterIdle enterDisabled enterDetecting enterBackoff enterErrorDelay enterClassifying enterPowerOn enterTestError
+rows-hold = refl
+
+-- a port after its move, with a control word; it asks or does not
+abbrev moved : State → ℕ → Bool → Moved
+moved s w asks = record { port = port s w 0; latched = noLatches; asks = asks }
+
+pub data Ranks : Type 0 where
+  -- the state before the tick and after the move, the control word, whether the port asks
+  ranks : State → State → ℕ → Bool → Ranks
+
+unfoldable pub ranked : Ranks → ℕ
+ranked (ranks s u w asks) = rank s (moved u w asks)
+
+-- "ports closed before the tick and still in POWER_UP, POWER_ON or TEST_MODE come first, then those asking. Within each: critical, high,
+-- then low and unknown alike"; 6 is no claim
+pub claims : List (Ranks × ℕ)
+claims =
+    (ranks PowerOn PowerOn 0x0015 false, 0)
+    ∷ (ranks PowerOn PowerOn 0x0025 false, 1)
+    ∷ (ranks PowerOn PowerOn 0x0035 false, 2)
+    ∷ (ranks PowerOn PowerOn 0x0005 false, 2)
+    ∷ (ranks PowerUp PowerUp 0x0015 false, 0)
+    ∷ (ranks PowerUp PowerOn 0x0015 false, 0)
+    ∷ (ranks TestMode TestMode 0x0016 false, 0)
+    ∷ (ranks Classifying Classifying 0x0015 true, 3)
+    ∷ (ranks Classifying Classifying 0x0025 true, 4)
+    ∷ (ranks Classifying Classifying 0x0035 true, 5)
+    ∷ (ranks Classifying Classifying 0x0005 true, 5)
+    ∷ (ranks Idle Idle 0x0016 true, 3)
+    ∷ (ranks Classifying Classifying 0x0015 false, 6)
+    ∷ (ranks PowerOn Idle 0x0015 false, 6)
+    ∷ (ranks TestMode TestError 0x0016 false, 6)
+    ∷ []
+
+pub claims-hold : map (λ (r : Ranks × ℕ). ranked (r .0)) claims ≡ map (λ (r : Ranks × ℕ). r .1) claims
+unfolding claims ranked rank priorityOf field
+claims-hold = refl
+
+pub data Settles : Type 0 where
+  -- the rank of the claim, whether it is kept, the state after the move, whether the port asks
+  settles : ℕ → Bool → State → Bool → Settles
+
+-- the state that a port settles in, its demand and its latches
+pub record Rests : Type 0 where
+  pub state : State
+  pub demand : ℕ
+  pub latches : Latches
+
+abbrev resting : Port → Rests
+resting p = record { state = p .state; demand = p .demand .0; latches = p .latches }
+
+unfoldable pub settling-of : Settles → Rests
+settling-of (settles r kept s asks) = resting (settled r kept (moved s on asks))
+
+abbrev stays : State → Rests
+stays s = record { state = s; demand = 70; latches = noLatches }
+
+abbrev denied-idle : Rests
+denied-idle = record { state = Idle; demand = 0; latches = latchDenied }
+
+-- "An asker kept enters its state; one shed goes to IDLE. A closed port shed goes to IDLE, or from TEST_MODE to TEST_ERROR. Each shed port
+-- latches 12." "Entering IDLE .. sets demand 0, also for a port that is shed, one shed from IDLE included"
+pub rests : List (Settles × Rests)
+rests =
+    (settles 3 true Classifying true, stays PowerUp)
+    ∷ (settles 3 false Classifying true, denied-idle)
+    ∷ (settles 5 true Idle true, stays TestMode)
+    ∷ (settles 5 false Idle true, denied-idle)
+    ∷ (settles 0 true PowerUp false, stays PowerUp)
+    ∷ (settles 0 false PowerUp false, denied-idle)
+    ∷ (settles 2 true PowerOn false, stays PowerOn)
+    ∷ (settles 2 false PowerOn false, denied-idle)
+    ∷ (settles 1 true TestMode false, stays TestMode)
+    ∷ (settles 1 false TestMode false, record { state = TestError; demand = 70; latches = latchDenied })
+    ∷ (settles 6 false Detecting false, stays Detecting)
+    ∷ (settles 6 false ErrorDelay false, stays ErrorDelay)
+    ∷ []
+
+pub rests-hold : map (λ (r : Settles × Rests). settling-of (r .0)) rests ≡ map (λ (r : Settles × Rests). r .1) rests
+unfolding rests settling-of settled granted shed enterIdle enterPowerUp enterTestMode enterTestError join
+rests-hold = refl
