@@ -1,8 +1,9 @@
+pub mod CallRows
 pub mod Cases
 pub mod Diagram
 pub mod History
 pub mod Limits
-pub mod Moves
+pub mod MoveRows
 pub mod Reached
 pub mod Rows
 pub mod Shared
