@@ -54,9 +54,9 @@ impl Sum {
         ensures { λ r. ⌜ r ≡ plus self power ⌝ }
     {
         let sum = self.0;
-        let more = power.0 as u32;
-        if sum <= 4_294_967_295 - more {
-            Sum(sum + more)
+        let demand = power.0 as u32;
+        if sum <= 4_294_967_295 - demand {
+            Sum(sum + demand)
         } else {
             Sum(4_294_967_295)
         }
