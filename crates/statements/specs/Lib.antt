@@ -11,6 +11,7 @@ pub mod Shows
 pub mod Statement1
 pub mod Statement2
 pub mod Statement3
+pub mod TlvRows
 pub mod Unique
 pub mod Weaker
 pub mod WrongCores

@@ -70,17 +70,28 @@ reserved = 0x0007
 abbrev on-b : ℕ
 on-b = 0x0009
 
--- a port of class 2 in a state, with a control word, and with every counter at one number
+abbrev all : ℕ → ℕ → ℕ → ℕ → ℕ → ℕ → ℕ → Counts
+all a b c d e f g = record { detection = a; backoff = b; «error_delay» = c; «power_on» = d; limiting = e; overload = f; «no_load» = g }
+
+-- the counters that run in a state at a number, the others at 0: a rule that looked at another's would miss its limit
+abbrev running : State → ℕ → Counts
+running Disabled n = all 0 0 0 0 0 0 0
+running Idle n = all 0 0 0 0 0 0 0
+running Detecting n = all n 0 0 0 0 0 0
+running Backoff n = all 0 n 0 0 0 0 0
+running Classifying n = all 0 0 0 n 0 0 0
+running PowerUp n = all 0 0 0 n n n 0
+running PowerOn n = all 0 0 0 0 n n n
+running ErrorDelay n = all 0 0 n 0 0 0 0
+running TestMode n = all 0 0 0 0 n n 0
+running TestError n = all 0 0 0 0 0 0 0
+
+-- a port of class 2 in a state, with a control word and counters
+abbrev counting : State → ℕ → Counts → Port
+counting s w c = record { state = s; class = 2; control = w; demand = tenths 70; latches = noLatches; counts = c }
+
 abbrev port : State → ℕ → ℕ → Port
-port s w n =
-    record {
-      state = s;
-      class = 2;
-      control = w;
-      demand = tenths 70;
-      latches = noLatches;
-      counts = record { detection = n; backoff = n; «error_delay» = n; «power_on» = n; limiting = n; overload = n; «no_load» = n };
-    }
+port s w n = counting s w (running s n)
 
 -- a row's question
 pub data Before : Type 0 where
@@ -197,6 +208,49 @@ rows =
 pub rows-hold : map (λ (r : Before × Goes). move (r .0)) rows ≡ map (λ (r : Before × Goes). r .1) rows
 unfolding rows move step byState enableOf pairOf field up during idle detected detecting backoff errorDelay classed classifying stressed watched risen powerUp powerOn testMode testError enterIdle enterDisabled enterDetecting enterBackoff enterErrorDelay enterClassifying enterPowerOn enterTestError
 rows-hold = refl
+
+-- the counters after a move of a port that has seven different ones
+abbrev before : Counts
+before = all 11 22 33 44 55 56 77
+
+unfoldable pub counted : Before → Counts
+counted (from s w n r) = step forced (counting s w before) r .port .counts
+
+-- "Each counter is set to 0 on the entry named, adds one each tick but stops at 2,000"; "A counter runs only in the states named for it and
+-- otherwise stands still"; "All counters of a state advance before any is compared; none advances in a tick that one of the two enable
+-- rules .. decides."
+pub counters : List (Before × Counts)
+counters =
+    (from Detecting off 0 quiet, before)
+    ∷ (from Detecting force 0 quiet, before)
+    ∷ (from PowerOn force 0 limits, before)
+    ∷ (from Disabled on 0 quiet, before)
+    ∷ (from Idle on 0 quiet, all 0 22 33 44 55 56 77)
+    ∷ (from Idle force 0 quiet, before)
+    ∷ (from Detecting on 0 quiet, all 12 22 33 44 55 56 77)
+    ∷ (from Detecting on 0 (detects Valid), all 12 22 33 0 55 56 77)
+    ∷ (from Detecting on-b 0 (detects Invalid), all 12 0 33 44 55 56 77)
+    ∷ (from Backoff on 0 quiet, all 11 23 33 44 55 56 77)
+    ∷ (from ErrorDelay on 0 quiet, all 11 22 34 44 55 56 77)
+    ∷ (from Classifying on 0 quiet, all 11 22 33 45 55 56 77)
+    ∷ (from PowerUp on 0 quiet, all 11 22 33 45 0 0 77)
+    ∷ (from PowerUp on 0 limits, all 11 22 33 45 56 0 77)
+    ∷ (from PowerUp on 0 overloads, all 11 22 33 45 0 57 77)
+    ∷ (from PowerUp on 0 settling, all 11 22 33 45 0 0 0)
+    ∷ (from PowerOn on 0 quiet, all 11 22 33 44 0 0 0)
+    ∷ (from PowerOn on 0 unloaded, all 11 22 33 44 0 0 78)
+    ∷ (from TestMode force 0 does-both, all 11 22 33 44 56 57 77)
+    ∷ (from TestError force 0 quiet, before)
+    ∷ []
+
+pub counters-hold : map (λ (r : Before × Counts). counted (r .0)) counters ≡ map (λ (r : Before × Counts). r .1) counters
+unfolding counters counted step byState enableOf pairOf field up during idle detected detecting backoff errorDelay classed classifying stressed watched risen powerUp powerOn testMode testError enterIdle enterDisabled enterDetecting enterBackoff enterErrorDelay enterClassifying enterPowerOn enterTestError
+counters-hold = refl
+
+-- a counter stops at 2,000
+pub counter-stops : map up (0 ∷ 1998 ∷ 1999 ∷ 2000 ∷ []) ≡ 1 ∷ 1999 ∷ 2000 ∷ 2000 ∷ []
+unfolding up
+counter-stops = refl
 
 -- a port after its move, with a control word; it asks or does not
 abbrev moved : State → ℕ → Bool → Moved

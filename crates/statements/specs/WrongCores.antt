@@ -126,10 +126,10 @@ module _ (after : Table) where
       ap numberIn (x .answers) ∙ sym (closed-number after w)
       ∙ ap₂ (λ m n. ones m + ones n) (sym (ap maskIn (x .answers))) (sym (ap otherMaskIn (x .answers)))
 
--- "or answers constant masks": demand 2's ranking, which closes port 0 under 8.0 W and not under nothing
-pub answers-constant-masks : (a : Closed) (under over : Table) → Ticks two both 0 under a → Ticks two both 80 over a → ⊥
-answers-constant-masks a under over x y =
+-- "or answers constant masks", with any number: demand 2's ranking, which closes port 0 under 8.0 W and not under nothing
+pub answers-constant-masks : (a b k j : ℕ) (under over : Table) → Ticks two both 0 under (Ports a b k) → Ticks two both 80 over (Ports a b j) → ⊥
+answers-constant-masks a b k j under over x y =
     false≢true
     (sym (ap₂ _&&_ (here .first-opens) refl)
-    ∙ sym (lowest under 0 a x) ∙ lowest over 80 a y
+    ∙ sym (lowest under 0 (Ports a b k) x) ∙ lowest over 80 (Ports a b j) y
     ∙ ap₂ _&&_ (here .first-closes) (here .first-is-a))

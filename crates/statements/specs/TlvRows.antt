@@ -1,0 +1,95 @@
+-- Document 01, "The power TLV": rows of our own beside its whole case, which has type and source alike. Each field stands in a place of its
+-- own here, so that a layout that is wrong in the definitions of reader and writer alike is refused.
+-- Assumes nothing.
+use Prim.Native.Nat.{ℕ}
+use mathlib.Core.Path.{_≡_, refl}
+use mathlib.Core.Bool.{Bool, true, false}
+use mathlib.Core.List.{List, [], _∷_, map}
+use lib.ListN.{replicate}
+use Rattle.lists.specs.Bits.{field}
+use Rattle.tlv.specs.Fields.{outside, badValues}
+use Rattle.tlv.specs.Header.{wordAt, typeAt, lengthAt, sizeAt, standsAt, fixedAt, isPower}
+use Rattle.tlv.specs.Read.{cut, exactlyOne, addedIn, formIn, fieldsIn, readOf}
+use Rattle.tlv.specs.Write.{badCodes, bytesOf, writtenOf, roomAfter}
+use Rattle.tlv.specs.declared.fields.Fields.{Fields}
+use Rattle.tlv.specs.declared.fields.Form.the-variants.{Short, Long}
+use Rattle.tlv.specs.declared.read.Taken.{Taken}
+use Rattle.tlv.specs.declared.read.Taken.the-variants.{Is, Refused}
+use Rattle.tlv.specs.declared.write.Written.{Written}
+use Rattle.tlv.specs.declared.write.Written.the-variants.{Is as Wrote, Refused as NotWritten}
+
+-- "Type 127 (7 bits), length (9 bits), OUI 00-12-0F, subtype 2, then three octets .. (support, pair, class). Length 7 ends there."
+abbrev short : List ℕ → List ℕ
+short rest = 0xFE ∷ 0x07 ∷ 0x00 ∷ 0x12 ∷ 0x0F ∷ 0x02 ∷ 0x0A ∷ 0x0B ∷ 0x0C ∷ rest
+
+-- "Length 12 adds one octet .. and the requested and allocated values"
+abbrev long : ℕ → ℕ → ℕ → ℕ → ℕ → List ℕ
+long octet r s a b = 0xFE ∷ 0x0C ∷ 0x00 ∷ 0x12 ∷ 0x0F ∷ 0x02 ∷ 0x0A ∷ 0x0B ∷ 0x0C ∷ octet ∷ r ∷ s ∷ a ∷ b ∷ []
+
+abbrev short-fields : Fields
+short-fields = record { support = 0x0A; pair = 0x0B; class = 0x0C; form = Short }
+
+abbrev fields : ℕ → ℕ → ℕ → ℕ → ℕ → Fields
+fields kind source priority requested allocated =
+    record {
+      support = 0x0A;
+      pair = 0x0B;
+      class = 0x0C;
+      form = Long (record { kind = kind; source = source; priority = priority; requested = requested; allocated = allocated });
+    }
+
+pub reading-rows : List (List ℕ × Taken)
+reading-rows =
+    (short [], Is short-fields)
+    -- "7:6 type, 5:4 source, 3:2 .. ignored when read, 1:0 priority"
+    ∷ (long 0b10010011 0 38 0 64, Is (fields 2 1 3 38 64))
+    ∷ (long 0b01101101 0 1 0 255, Is (fields 1 2 1 1 255))
+    -- "1..255"
+    ∷ (long 0b10010011 0 0 0 64, Refused 10)
+    ∷ (long 0b10010011 1 0 0 64, Refused 10)
+    ∷ (long 0b10010011 0 38 0 0, Refused 10)
+    ∷ (long 0b10010011 0 38 1 0, Refused 10)
+    -- "exactly one power TLV of length 7 or 12": a byte left over; length 8; another OUI; another subtype
+    ∷ (short (0 ∷ []), Refused 9)
+    ∷ (0xFE ∷ 0x08 ∷ 0x00 ∷ 0x12 ∷ 0x0F ∷ 0x02 ∷ 0x0A ∷ 0x0B ∷ 0x0C ∷ 0x00 ∷ [], Refused 9)
+    ∷ (0xFE ∷ 0x07 ∷ 0x00 ∷ 0x12 ∷ 0x0E ∷ 0x02 ∷ 0x0A ∷ 0x0B ∷ 0x0C ∷ [], Refused 9)
+    ∷ (0xFE ∷ 0x07 ∷ 0x00 ∷ 0x12 ∷ 0x0F ∷ 0x03 ∷ 0x0A ∷ 0x0B ∷ 0x0C ∷ [], Refused 9)
+    -- "fewer than the header says": the ninth bit of the length counts
+    ∷ (0xFF ∷ 0x07 ∷ 0x00 ∷ 0x12 ∷ 0x0F ∷ 0x02 ∷ 0x0A ∷ 0x0B ∷ 0x0C ∷ [], Refused 6)
+    ∷ []
+
+pub reading-rows-hold : map (λ (r : List ℕ × Taken). readOf (r .0)) reading-rows ≡ map (λ (r : List ℕ × Taken). r .1) reading-rows
+unfolding reading-rows readOf cut exactlyOne fieldsIn formIn addedIn badValues outside isPower fixedAt standsAt typeAt lengthAt sizeAt wordAt field
+reading-rows-hold = refl
+
+-- fields handed to the writer with so many bytes of room, each A5
+pub data Question : Type 0 where
+  writes : Fields → ℕ → Question
+
+abbrev room : ℕ → List ℕ
+room n = replicate n 0xA5
+
+unfoldable pub answer : Question → Written × List ℕ
+answer (writes f n) = (writtenOf f (room n), roomAfter f (room n))
+
+pub writing-rows : List (Question × (Written × List ℕ))
+writing-rows =
+    -- "Room past a written TLV keeps its bytes."
+    (writes short-fields 9, (Wrote 9, short []))
+    ∷ (writes short-fields 11, (Wrote 9, short (0xA5 ∷ 0xA5 ∷ [])))
+    -- "3:2 sent as zero"
+    ∷ (writes (fields 2 1 3 38 64) 14, (Wrote 14, long 0b10010011 0 38 0 64))
+    ∷ (writes (fields 1 2 1 1 255) 14, (Wrote 14, long 0b01100001 0 1 0 255))
+    -- "Writing: 3, 10, 1.", each number before the next
+    ∷ (writes (fields 4 0 0 0 0) 0, (NotWritten 3, []))
+    ∷ (writes (fields 0 4 0 1 1) 14, (NotWritten 3, room 14))
+    ∷ (writes (fields 0 0 4 1 1) 14, (NotWritten 3, room 14))
+    ∷ (writes (fields 3 3 3 0 1) 13, (NotWritten 10, room 13))
+    ∷ (writes (fields 3 3 3 1 256) 14, (NotWritten 10, room 14))
+    ∷ (writes (fields 3 3 3 1 255) 13, (NotWritten 1, room 13))
+    ∷ (writes short-fields 8, (NotWritten 1, room 8))
+    ∷ []
+
+pub writing-rows-hold : map (λ (r : Question × (Written × List ℕ)). answer (r .0)) writing-rows ≡ map (λ (r : Question × (Written × List ℕ)). r .1) writing-rows
+unfolding writing-rows answer writtenOf roomAfter badCodes badValues outside bytesOf
+writing-rows-hold = refl
