@@ -4,25 +4,29 @@
 use Prim.Native.Nat.{ℕ}
 use mathlib.Core.Path.{_≡_, refl}
 use mathlib.Core.Bool.{Bool, true, false}
-use mathlib.Core.List.{List, [], _∷_, map}
+use mathlib.Core.List.{List, [], _∷_, _++_, map}
 use lib.ListN.{replicate}
 use Rattle.lists.specs.Bits.{field, above}
 use Rattle.lists.specs.Every.{every}
 use Rattle.lists.specs.Table.{some}
 use Rattle.lists.specs.Total.{total}
-use Rattle.power.specs.Power.{tenths, zeroPower, atMost, fits}
+use Rattle.power.specs.Power.{tenths, atMost, fits, supplyOf}
 use Rattle.reading.specs.Class.{budgetOf, isDemand}
+use Rattle.reading.specs.Sample.{wordAt, sampleAt, reservedFlags}
 use Rattle.words.specs.Control.{refused}
-use Rattle.words.specs.Status.{noLatches}
+use Rattle.words.specs.Status.{noLatches, statusWord}
 use Rattle.port.specs.declared.form.Counts.{Counts}
 use Rattle.port.specs.declared.form.Port.{Port}
 use Rattle.port.specs.declared.form.State.{State}
-use Rattle.port.specs.declared.form.State.the-variants.{Disabled, Idle, PowerUp, PowerOn}
-use Rattle.table.specs.Calls.{coldPort, coldTable, coldStart, sameAlternative, withControl, controlled, writeControl, levelOf, draws, closedSum, demanding, granting, requested, request}
-use Rattle.table.specs.Form.{zeroCounts, portAt, withPort, done, refuse}
+use Rattle.port.specs.declared.form.State.the-variants.{Disabled, Idle, Detecting, Backoff, Classifying, PowerUp, PowerOn, ErrorDelay, TestMode, TestError}
+use Rattle.table.specs.Calls.{coldPort, coldTable, coldStart, sameAlternative, withControl, controlled, writeControl, condition, unlatched, statusAt, readStatus, levelOf, draws, closedSum, demanding, granting, requested, request}
+use Rattle.table.specs.Form.{zeroCounts, portAt, withPort, done, refuse, tells, refuseStatus, refuseTick}
+use Rattle.table.specs.Tick.{answered, flagsTaken, tickWith, tick}
 use Rattle.table.specs.WellMade.{wellCounts, wellPort, wellMade}
+use Rattle.table.specs.declared.form.Answer.the-variants.{Done}
+use Rattle.table.specs.declared.form.Status.the-variants.{Word}
 use Rattle.table.specs.declared.form.Table.{Table}
-use Rattle.statements.specs.Statement1.{Outcome, value, number, told}
+use Rattle.statements.specs.Statement1.{Outcome, value, number, told, statusTold, tickTold}
 
 -- a port with a state, a class, a control word, a demand and counters
 abbrev port : State → ℕ → ℕ → ℕ → Counts → Port
@@ -79,11 +83,19 @@ pub data Question : Type 0 where
   cold : ℕ → Question
   control : Table → ℕ → ℕ → Question
   asks : Table → ℕ → ℕ → Question
+  reads : Table → ℕ → Question
+  ticks : Table → List ℕ → ℕ → Question
 
 unfoldable pub meaning : Question → Outcome
 meaning (cold n) = told (coldStart n .answer)
 meaning (control t p w) = told (writeControl t p w .answer)
 meaning (asks t p v) = told (request t p v .answer)
+meaning (reads t p) = statusTold (readStatus t p .answer)
+meaning (ticks t block figure) = tickTold (tick t block figure .answer)
+
+-- two samples without a flag; two of which the second has a reserved flag; one byte too few
+abbrev samples : ℕ → List ℕ
+samples flag = replicate 26 0 ++ (0 ∷ flag ∷ [])
 
 -- port 0 in a state with a class and a demand, beside a closed port of 7.0 W
 abbrev shared : State → ℕ → ℕ → ℕ → Table
@@ -122,13 +134,48 @@ calls =
     -- "a higher one exactly if all closed ports' demands with the change are at most the stored supply"
     ∷ (asks (shared PowerOn 3 40 223) 0 129, number 12)
     ∷ (asks (shared PowerOn 3 40 224) 0 129, value)
+    -- "Status: 2.", after 13
+    ∷ (reads ill 49, number 13)
+    ∷ (reads (shared Idle 0 0 0) 2, number 2)
+    ∷ (reads (shared Idle 0 0 0) 1, value)
+    -- "Tick: 1, 4, 3.", after 13: each number before the next
+    ∷ (ticks ill [] 60001, number 13)
+    ∷ (ticks (shared Idle 0 0 0) (replicate 27 0xFF) 60001, number 1)
+    ∷ (ticks (shared Idle 0 0 0) (replicate 29 0xFF) 60001, number 1)
+    ∷ (ticks (shared Idle 0 0 0) (samples 64) 60001, number 4)
+    ∷ (ticks (shared Idle 0 0 0) (samples 64) 60000, number 3)
+    ∷ (ticks (shared Idle 0 0 0) (samples 63) 60000, value)
     ∷ []
 
 pub calls-hold : map (λ (r : Question × Outcome). meaning (r .0)) calls ≡ map (λ (r : Question × Outcome). r .1) calls
-unfolding calls meaning coldStart coldTable done refuse writeControl controlled sameAlternative withControl withPort request requested granting demanding levelOf budgetOf closedSum draws total fits wellMade wellPort wellCounts atMost every portAt refused field above isDemand some
+unfolding calls meaning coldStart coldTable done refuse writeControl controlled sameAlternative withControl withPort request requested granting demanding levelOf budgetOf closedSum draws total fits wellMade wellPort wellCounts atMost every portAt refused field above isDemand some readStatus statusAt tells refuseStatus tick tickWith supplyOf flagsTaken reservedFlags sampleAt wordAt refuseTick answered
 calls-hold = refl
 
 -- "value 1..38 means demand 40, ..64 means 70, ..129 means 154, ..255 means 300"
 pub levels-hold : map levelOf (1 ∷ 38 ∷ 39 ∷ 64 ∷ 65 ∷ 129 ∷ 130 ∷ 255 ∷ []) ≡ map tenths (40 ∷ 40 ∷ 70 ∷ 70 ∷ 154 ∷ 154 ∷ 300 ∷ 300 ∷ [])
 unfolding levelOf budgetOf
 levels-hold = refl
+
+-- "Condition: 0 in DISABLED, 1 in IDLE, DETECTING, BACKOFF, CLASSIFYING, 2 in POWER_UP, POWER_ON, 3 in TEST_MODE, 4 in ERROR_DELAY, TEST_ERROR.": the
+-- status words of ports without a latch in each of the ten states, of class 0
+pub conditions-hold :
+    map (λ (s : State). statusWord noLatches 0 (condition s)) (Disabled ∷ Idle ∷ Detecting ∷ Backoff ∷ Classifying ∷ PowerUp ∷ PowerOn ∷ ErrorDelay ∷ TestMode ∷ TestError ∷ [])
+    ≡ 1 ∷ 3 ∷ 3 ∷ 3 ∷ 3 ∷ 5 ∷ 5 ∷ 9 ∷ 7 ∷ 9 ∷ []
+unfolding statusWord
+conditions-hold = refl
+
+-- "Reading the status returns the word and clears that port's six latches, no more."
+abbrev latched : Port
+latched = record { state = PowerOn; class = 2; control = 0x0005; demand = tenths 70; latches = record { denied = true; valid = true; invalid = true; short = true; overload = true; absent = true }; counts = counts 1 2 3 4 5 6 7 }
+
+abbrev cleared : Port
+cleared = record { state = PowerOn; class = 2; control = 0x0005; demand = tenths 70; latches = noLatches; counts = counts 1 2 3 4 5 6 7 }
+
+pub status-clears : readStatus (table 2 300 latched latched) 1 ≡ record { table = table 2 300 latched cleared; answer = Word 0x1FA5 }
+unfolding readStatus statusAt unlatched tells statusWord withPort wellMade wellPort wellCounts atMost every portAt refused field above isDemand some
+status-clears = refl
+
+-- "Accepted, it becomes the port's demand; nothing else changes."
+pub request-changes-its-demand : request (table 2 300 (port PowerOn 3 0x0005 40 zeroCounts) latched) 0 129 ≡ record { table = table 2 300 (port PowerOn 3 0x0005 154 zeroCounts) latched; answer = Done }
+unfolding request requested granting demanding levelOf budgetOf closedSum draws total fits done withPort wellMade wellPort wellCounts atMost every portAt refused field above isDemand some
+request-changes-its-demand = refl
