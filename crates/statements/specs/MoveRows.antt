@@ -331,3 +331,14 @@ rests =
 pub rests-hold : map (λ (r : Settles × Rests). settling-of (r .0)) rests ≡ map (λ (r : Settles × Rests). r .1) rests
 unfolding rests settling-of settled granted shed enterIdle enterPowerUp enterTestMode enterTestError join
 rests-hold = refl
+
+-- "consecutive ticks of limiting, and of overload, are counted from POWER_UP's entry"; in TEST_MODE "the same two counts, from its own entry"; a
+-- claim that is shed zeroes no counter
+abbrev asker : State → ℕ → Moved
+asker s w = record { port = counting s w before; latched = noLatches; asks = true }
+
+pub entries-hold :
+    settled 3 true (asker Classifying on) .counts ∷ settled 3 true (asker Idle force) .counts ∷ settled 3 false (asker Classifying on) .counts ∷ []
+    ≡ all 11 22 33 44 0 0 77 ∷ all 11 22 33 44 0 0 77 ∷ before ∷ []
+unfolding settled granted shed enterIdle enterPowerUp enterTestMode
+entries-hold = refl
