@@ -84,12 +84,12 @@ seen s nothing = cond (showsSignature s) signature nothing
 seen s signature = cond (givesClass s) both signature
 seen s both = both
 
--- what a call adds: an accepted tick's own bytes for the port
+-- what a call adds: an accepted tick's own bytes for the port, unless it stood in IDLE when they were taken
 unfoldable pub adds : Table → ℕ → Call → Shown → Shown
 adds t p (control q w) x = x
 adds t p (status q) x = x
 adds t p (requested q v) x = x
-adds t p (ticked block figure) x = cond (accepted (tick t block figure .answer)) (seen (sampleAt block (14 * p)) x) x
+adds t p (ticked block figure) x = cond (accepted (tick t block figure .answer)) (cond (isIdle (portAt t p .state)) x (seen (sampleAt block (14 * p)) x)) x
 
 -- it looks at bytes, and at whether the port stands in IDLE, and at nothing else of the table
 unfoldable pub shown : ℕ → ℕ → List Call → Shown

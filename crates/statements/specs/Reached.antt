@@ -11,7 +11,7 @@ use lib.ListN.{length, getD, set, getD-replicate}
 use borrow.Author.Tests.{ltb-true, leb-true, le-leb, lt-ltb}
 use Rattle.lists.specs.Places.{getD-tabulate}
 use Rattle.lists.specs.Table.{and-left, and-right}
-use Rattle.power.specs.Power.{tenths, highestSupply, atMost, fits, sumOf, supplyOf}
+use Rattle.power.specs.Power.{forced, tenths, highestSupply, atMost, fits, sumOf, supplyOf}
 use Rattle.power.specs.declared.Power.{Power}
 use Rattle.power.specs.declared.Supply.{Supply}
 use Rattle.power.specs.declared.Supply.the-variants.{Is, TooLarge}
@@ -19,6 +19,8 @@ use Rattle.reading.specs.Class.{budgetOf, isDemand}
 use Rattle.reading.specs.Laws.{budget-is-demand}
 use Rattle.reading.specs.Sample.{sampleAt}
 use Rattle.words.specs.Control.{refused}
+use Rattle.port.specs.Settle.{settled}
+use Rattle.port.specs.Step.{step}
 use Rattle.port.specs.declared.form.Port.{Port}
 use Rattle.port.specs.declared.form.State.{State}
 use Rattle.table.specs.Calls.{coldPort, coldTable, coldStart, inDisabled, sameAlternative, withControl, controlled, writeControl, unlatched, statusAt, readStatus, levelOf, inPowerOn, closedSum, demanding, granting, requested, request}
@@ -33,7 +35,7 @@ use Rattle.table.specs.declared.form.StatusRead.{StatusRead}
 use Rattle.table.specs.declared.form.Ticked.{Ticked}
 use Rattle.table.specs.declared.form.Told.{Told}
 use Rattle.statements.specs.History.{Call, control, status, requested as asked, ticked, after, reached, accepted, isIdle, Shown, nothing, seen, adds, shown}
-use Rattle.statements.specs.Shows.{Needs, idle-needs, tick-needs}
+use Rattle.statements.specs.Shows.{Needs, idle-needs, tick-needs, tick-needs-idle}
 
 -- a choice, with what the test says on each side
 choiceOn : {X : Type 0} (P : X → Type 0) (t : Bool) (a b : X) → (t ≡ true → P a) → (t ≡ false → P b) → P (cond t a b)
@@ -170,12 +172,17 @@ module _ (t : Table) (m : wellMade t ≡ true) (p : ℕ) (x : Shown) where
   quiet-needs u k n = subst (λ (st : State). Needs st x) (sym (k .states p)) n
 
   ran-needs : (block : List ℕ) (figure : ℕ) → Ran t block figure (tick t block figure) → p < t .count → Needs (portAt t p .state) x
-      → Needs (portAt (tick t block figure .table) p .state) (seen (sampleAt block (14 * p)) x)
+      → Needs (portAt (tick t block figure .table) p .state) (cond (isIdle (portAt t p .state)) x (seen (sampleAt block (14 * p)) x))
   unfolding portAfter movedAt
   ran-needs block figure r l n =
       rw (r .table)
       (rw (port-after-at t block (tenths figure) p (omega (arith, well-count t m)))
-      (simp (lt-ltb p (t .count) l) (tick-needs (sampleAt block (14 * p)) (rankAt t block p) (keptAt t block (tenths figure) p) (portAt t p) x n)))
+      (simp (lt-ltb p (t .count) l)
+      (choiceOn
+      (λ (z : Shown). Needs (settled (rankAt t block p) (keptAt t block (tenths figure) p) (step forced (portAt t p) (digest (sampleAt block (14 * p)))) .state) z)
+      (isIdle (portAt t p .state)) x (seen (sampleAt block (14 * p)) x)
+      (λ e. tick-needs-idle (sampleAt block (14 * p)) (rankAt t block p) (keptAt t block (tenths figure) p) (portAt t p) x e n)
+      (λ e. tick-needs (sampleAt block (14 * p)) (rankAt t block p) (keptAt t block (tenths figure) p) (portAt t p) x n))))
 
   call-needs : (c : Call) → p < t .count → Needs (portAt t p .state) x → Needs (portAt (after t c) p .state) (adds t p c x)
   unfolding after adds

@@ -5,6 +5,7 @@ use Prim.Native.Nat.{ℕ}
 use mathlib.Core.Path.{_≡_, refl, sym, _∙_, ap, subst}
 use mathlib.Core.Bool.{Bool, true, false, cond, not, _&&_, false≢true}
 use lib.Dec.{leb}
+use Rattle.lists.specs.Bits.{bit}
 use Rattle.power.specs.Power.{forced}
 use Rattle.power.specs.declared.Power.{Power}
 use Rattle.reading.specs.Class.{classOfTwo}
@@ -292,3 +293,35 @@ module _ (s : Sample) where
   pub tick-needs : (r : ℕ) (k : Bool) (p : Port) (x : Shown) → Needs (p .state) x → Needs (settled r k (step forced p (digest s)) .state) (seen s x)
   unfolding y
   tick-needs r k p x n = right-settled x r k (step forced p (digest s)) (right-step x p n)
+
+-- the move of a port in IDLE does not look at its sample
+is-idle : (st : State) → isIdle st ≡ true → st ≡ Idle
+is-idle Disabled e = absurd (false≢true e)
+is-idle Idle e = refl
+is-idle Detecting e = absurd (false≢true e)
+is-idle Backoff e = absurd (false≢true e)
+is-idle Classifying e = absurd (false≢true e)
+is-idle PowerUp e = absurd (false≢true e)
+is-idle PowerOn e = absurd (false≢true e)
+is-idle ErrorDelay e = absurd (false≢true e)
+is-idle TestMode e = absurd (false≢true e)
+is-idle TestError e = absurd (false≢true e)
+
+idle-blind : (p : Port) (r q : Reading) → p .state ≡ Idle → step forced p r ≡ step forced p q
+unfolding step byState
+idle-blind p r q e = rw e refl
+
+silent : Sample
+silent = record { v1 = 0; v2 = 0; i1 = 0; i2 = 0; c1 = 0; c2 = 0; flags = 0 }
+
+silent-shows : (x : Shown) → seen silent x ≡ x
+unfolding silent seen showsSignature givesClass flagsOf bit
+silent-shows nothing = refl
+silent-shows signature = refl
+silent-shows both = refl
+
+-- so a port that stood in IDLE needs nothing of it
+pub tick-needs-idle : (s : Sample) (r : ℕ) (k : Bool) (p : Port) (x : Shown) → isIdle (p .state) ≡ true → Needs (p .state) x → Needs (settled r k (step forced p (digest s)) .state) x
+tick-needs-idle s r k p x e n =
+    subst (λ (m : Moved). Needs (settled r k m .state) x) (idle-blind p (digest silent) (digest s) (is-idle (p .state) e))
+    (subst (λ (z : Shown). Needs (settled r k (step forced p (digest silent)) .state) z) (silent-shows x) (tick-needs silent r k p x n))

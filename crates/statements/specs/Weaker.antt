@@ -61,10 +61,12 @@ pub record Facts : Type 0 where
   -- with nothing to share the port goes back to IDLE, and what it showed before counts no more
   pub opens : closedAt (under 0) 0 ≡ false
   pub forgets : shown 1 0 (ticked gives 0 ∷ signed) ≡ nothing
+  -- a sample that was taken while the port stood in IDLE is not "since"
+  pub too-early : shown 1 0 (ticked signs 154 ∷ ticked quiet 154 ∷ control 0 0x0005 ∷ []) ≡ nothing
 
 pub facts : Facts
 unfolding quiet signs gives signed reached after shown adds seen showsSignature givesClass coldStart coldTable done writeControl controlled withControl withPort wellMade atMost every portAt wellPort wellCounts refused field above isDemand some flagsTaken reservedFlags sampleAt wordAt tick tickWith supplyOf answered tableAfter tabulate portAfter digest flagsOf bit signatureOf outside byDifferences classOfTwo isFour classOf budgetOf step byState enableOf pairOf up idle detected detecting classifying classed rankAt movedAt rank priorityOf keptAt claimAt keeps claims down sumWhere total met before settled granted enterIdle enterDetecting enterClassifying enterPowerUp shed closedSum draws closedAt
-facts = record { waits = refl; closes = refl; shows-both = refl; adds-up = refl; remembers = refl; opens = refl; forgets = refl }
+facts = record { waits = refl; closes = refl; shows-both = refl; adds-up = refl; remembers = refl; opens = refl; forgets = refl; too-early = refl }
 
 -- the masks compared the other way round: false of our core
 pub turned-round : ((p : ℕ) → closedAt (under 154) p ≡ true → closedAt (under 0) p ≡ true) → ⊥
