@@ -42,6 +42,9 @@ use Rattle.table.specs.declared.form.StatusRead.{StatusRead}
 use Rattle.table.specs.declared.form.Table.{Table}
 use Rattle.table.specs.declared.form.Ticked.{Ticked}
 use Rattle.table.specs.declared.form.Told.{Told}
+use Rattle.image.specs.Image.{stores, roomAfter as imageAfter}
+use Rattle.image.specs.Load.{loaded}
+use Rattle.image.specs.declared.load.Loaded.{Loaded}
 use Rattle.tlv.specs.Fields.{badValues}
 use Rattle.tlv.specs.Read.{readOf}
 use Rattle.tlv.specs.Search.{searchOf}
@@ -109,6 +112,8 @@ pub record Unique : Type 0 where
   pub tlv-walk-here : (w : Walker) → One Step (λ s. s ≡ stepOf (w .pdu) (w .at))
   pub tlv-walk-tlv-at : (pdu : List ℕ) (at : ℕ) → One Step (λ s. s ≡ stepOf pdu at)
   pub tlv-write-write : (f : Fields) (room : List ℕ) → OneWith Written (List ℕ) (λ r room'. (r ≡ writtenOf f room) × (room' ≡ roomAfter f room))
+  pub image-load-load : (bytes : List ℕ) → One Loaded (λ r. r ≡ loaded bytes)
+  pub image-store-store : (t : Table) (room : List ℕ) → OneWith Bool (List ℕ) (λ r room'. (r ≡ stores room) × (room' ≡ imageAfter t room))
 
 one : (A : Type 0) (d : A) → One A (λ r. r ≡ d)
 one A d r s p q = p ∙ sym q
@@ -161,5 +166,7 @@ unique =
       tlv-walk-new = λ pdu at. walker pdu at;
       tlv-walk-here = λ w. one Step (stepOf (w .pdu) (w .at));
       tlv-walk-tlv-at = λ pdu at. one Step (stepOf pdu at);
+      image-load-load = λ bytes. one Loaded (loaded bytes);
+      image-store-store = λ t room. with-room Bool (List ℕ) (stores room) (imageAfter t room);
       tlv-write-write = λ f room. with-room Written (List ℕ) (writtenOf f room) (roomAfter f room);
     }

@@ -1,0 +1,168 @@
+// Answers, written into the room for output from a place on. Each function says where the next byte goes.
+use reading::class::Class;
+use reading::signature::Signature;
+use table::form::Answer;
+use table::form::Closed;
+use table::form::Status;
+use tlv::fields::Fields;
+use tlv::fields::Form;
+use tlv::read::Taken;
+use tlv::search::Searched;
+
+fn put(out: &mut [u8], at: usize, b: u8) -> usize {
+    if at < out.len() {
+        out[at] = b;
+        return at + 1;
+    }
+    at
+}
+
+pub fn text(out: &mut [u8], at: usize, bytes: &[u8]) -> usize {
+    let mut to = at;
+    let mut i = 0;
+    while i < bytes.len() {
+        to = put(out, to, bytes[i]);
+        i += 1;
+    }
+    to
+}
+
+// A space and the number.
+pub fn number(out: &mut [u8], at: usize, n: u64) -> usize {
+    let mut digits = [0u8; 20];
+    let k = io::decimal(n, &mut digits);
+    let to = put(out, at, b' ');
+    text(out, to, &digits[..k])
+}
+
+fn glyph(n: u8) -> u8 {
+    if n < 10 {
+        return b'0' + n;
+    }
+    if n < 16 {
+        return b'a' + (n - 10);
+    }
+    b'?'
+}
+
+pub fn hex(out: &mut [u8], at: usize, bytes: &[u8]) -> usize {
+    let mut to = at;
+    let mut i = 0;
+    while i < bytes.len() {
+        to = put(out, to, glyph(bytes[i] / 16));
+        to = put(out, to, glyph(bytes[i] % 16));
+        i += 1;
+    }
+    to
+}
+
+pub fn end(out: &mut [u8], at: usize) -> usize {
+    put(out, at, b'\n')
+}
+
+pub fn line(out: &mut [u8], at: usize, bytes: &[u8]) -> usize {
+    let to = text(out, at, bytes);
+    end(out, to)
+}
+
+pub fn bad_line(out: &mut [u8], at: usize) -> usize {
+    line(out, at, b"bad line")
+}
+
+pub fn refused(out: &mut [u8], at: usize, k: u8) -> usize {
+    let to = text(out, at, b"refused");
+    let past = number(out, to, k as u64);
+    end(out, past)
+}
+
+pub fn answer(out: &mut [u8], at: usize, answer: Answer) -> usize {
+    match answer {
+        Answer::Done => line(out, at, b"ok"),
+        Answer::Refused(k) => refused(out, at, k),
+    }
+}
+
+pub fn status(out: &mut [u8], at: usize, answer: Status) -> usize {
+    match answer {
+        Status::Word(w) => {
+            let to = text(out, at, b"status");
+            let past = number(out, to, w as u64);
+            end(out, past)
+        }
+        Status::Refused(k) => refused(out, at, k),
+    }
+}
+
+pub fn closed(out: &mut [u8], at: usize, answer: Closed) -> usize {
+    match answer {
+        Closed::Ports(a, b, n) => {
+            let to = text(out, at, b"ticked");
+            let first = number(out, to, a);
+            let second = number(out, first, b);
+            let third = number(out, second, n as u64);
+            end(out, third)
+        }
+        Closed::Refused(k) => refused(out, at, k),
+    }
+}
+
+pub fn searched(out: &mut [u8], at: usize, answer: Searched) -> usize {
+    match answer {
+        Searched::Is(start, size) => {
+            let to = text(out, at, b"found");
+            let first = number(out, to, start as u64);
+            let second = number(out, first, size as u64);
+            end(out, second)
+        }
+        Searched::Refused(k) => refused(out, at, k),
+    }
+}
+
+fn form(out: &mut [u8], at: usize, form: Form) -> usize {
+    match form {
+        Form::Short => at,
+        Form::Long(added) => {
+            let kind = number(out, at, added.kind);
+            let source = number(out, kind, added.source);
+            let priority = number(out, source, added.priority);
+            let requested = number(out, priority, added.requested);
+            number(out, requested, added.allocated)
+        }
+    }
+}
+
+pub fn fields(out: &mut [u8], at: usize, fields: Fields) -> usize {
+    let to = text(out, at, b"fields");
+    let support = number(out, to, fields.support as u64);
+    let pair = number(out, support, fields.pair as u64);
+    let class = number(out, pair, fields.class as u64);
+    let added = fields.form;
+    let past = form(out, class, added);
+    end(out, past)
+}
+
+pub fn taken(out: &mut [u8], at: usize, answer: Taken) -> usize {
+    match answer {
+        Taken::Is(f) => fields(out, at, f),
+        Taken::Refused(k) => refused(out, at, k),
+    }
+}
+
+pub fn signature(out: &mut [u8], at: usize, shown: Signature) -> usize {
+    match shown {
+        Signature::Valid => line(out, at, b"valid"),
+        Signature::Invalid => line(out, at, b"invalid"),
+        Signature::Open => line(out, at, b"open"),
+    }
+}
+
+pub fn class(out: &mut [u8], at: usize, shown: Class) -> usize {
+    match shown {
+        Class::Is(k) => {
+            let to = text(out, at, b"class");
+            let past = number(out, to, k as u64);
+            end(out, past)
+        }
+        Class::Failure => line(out, at, b"failure"),
+    }
+}

@@ -1,0 +1,194 @@
+// The words of a line, each parted from the next by one space, and the numbers and bytes that they are.
+ghost use Prim.Native.Nat.{_≤_};
+
+// The first bytes of a slice, as far as they go.
+pub fn front(bytes: &[u8], n: usize) -> &[u8] {
+    if n <= bytes.len() {
+        return &bytes[..n];
+    }
+    bytes
+}
+
+fn space(b: u8) -> usize
+    ensures { λ r. ⌜ r ≤ 1 ⌝ }
+{
+    if b == b' ' { 1 } else { 0 }
+}
+
+// One more than the spaces: an empty word is counted, and is no command, number or bytes.
+pub fn count(line: &[u8]) -> usize {
+    let mut n: usize = 0;
+    let mut i = 0;
+    while i < line.len() {
+        n += space(line[i]);
+        i += 1;
+    }
+    n + 1
+}
+
+// Where the word begins that stands after so many spaces.
+fn start(line: &[u8], spaces: usize) -> usize {
+    let mut n: usize = 0;
+    let mut i = 0;
+    while i < line.len() {
+        if spaces <= n {
+            return i;
+        }
+        n += space(line[i]);
+        i += 1;
+    }
+    line.len()
+}
+
+fn end(line: &[u8], from: usize) -> usize {
+    let mut i = from;
+    while i < line.len() {
+        if line[i] == b' ' {
+            return i;
+        }
+        i += 1;
+    }
+    line.len()
+}
+
+pub fn word(line: &[u8], k: usize) -> &[u8] {
+    let a = start(line, k);
+    let e = end(line, a);
+    if a <= e {
+        if e <= line.len() {
+            return &line[a..e];
+        }
+    }
+    &line[..0]
+}
+
+pub enum Number {
+    Is(u64),
+    Bad,
+}
+
+// One digit more, unless the number is then over 64 bits.
+fn more(n: u64, b: u8) -> Number {
+    if b < b'0' {
+        return Number::Bad;
+    }
+    if b'9' < b {
+        return Number::Bad;
+    }
+    let d = (b - b'0') as u64;
+    if (18_446_744_073_709_551_615 - d) / 10 < n {
+        return Number::Bad;
+    }
+    Number::Is(10 * n + d)
+}
+
+// At most 20 digits, with zeros in front or not.
+pub fn number_of(word: &[u8]) -> Number {
+    if word.len() < 1 {
+        return Number::Bad;
+    }
+    if 20 < word.len() {
+        return Number::Bad;
+    }
+    let mut n: u64 = 0;
+    let mut i = 0;
+    while i < word.len() {
+        match more(n, word[i]) {
+            Number::Is(m) => n = m,
+            Number::Bad => return Number::Bad,
+        }
+        i += 1;
+    }
+    Number::Is(n)
+}
+
+// The numbers of a line after its command, if there are just so many and each is one.
+pub struct Numbers {
+    pub n: [u64; 9],
+    pub ok: bool,
+}
+
+fn no_numbers() -> Numbers {
+    let n = [0u64; 9];
+    Numbers { n, ok: false }
+}
+
+pub fn numbers_of(line: &[u8], many: usize) -> Numbers {
+    let mut n = [0u64; 9];
+    if 9 < many {
+        return no_numbers();
+    }
+    if count(line) != many + 1 {
+        return no_numbers();
+    }
+    let mut i = 0;
+    while i < many {
+        match number_of(word(line, i + 1)) {
+            Number::Is(m) => n[i] = m,
+            Number::Bad => return no_numbers(),
+        }
+        i += 1;
+    }
+    Numbers { n, ok: true }
+}
+
+// Over 15 for a byte that is no hex digit.
+fn nibble(b: u8) -> u8 {
+    match b {
+        b'0'..=b'9' => b - b'0',
+        b'A'..=b'F' => b - b'A' + 10,
+        b'a'..=b'f' => b - b'a' + 10,
+        _ => 16,
+    }
+}
+
+fn pair(high: u8, low: u8) -> u8 {
+    if 15 < high {
+        return 0;
+    }
+    if 15 < low {
+        return 0;
+    }
+    16 * high + low
+}
+
+pub enum Bytes {
+    // So many, from the room's start on.
+    Are(usize),
+    Bad,
+}
+
+fn pairs(word: &[u8], room: &mut [u8]) -> Bytes {
+    let n = word.len() / 2;
+    if room.len() < n {
+        return Bytes::Bad;
+    }
+    let mut i = 0;
+    while i < n {
+        let high = nibble(word[2 * i]);
+        let low = nibble(word[2 * i + 1]);
+        if 15 < high {
+            return Bytes::Bad;
+        }
+        if 15 < low {
+            return Bytes::Bad;
+        }
+        room[i] = pair(high, low);
+        i += 1;
+    }
+    Bytes::Are(n)
+}
+
+// Pairs of hex digits in either case, or `-` for no bytes.
+pub fn bytes_of(word: &[u8], room: &mut [u8]) -> Bytes {
+    if check::same(word, b"-") {
+        return Bytes::Are(0);
+    }
+    if word.len() < 1 {
+        return Bytes::Bad;
+    }
+    if word.len() % 2 != 0 {
+        return Bytes::Bad;
+    }
+    pairs(word, room)
+}

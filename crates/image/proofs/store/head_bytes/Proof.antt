@@ -1,0 +1,17 @@
+-- `head_bytes` is `headBytes`.
+-- Assumes nothing.
+use borrow.Author.Needs.{needs}
+use Rattle.image.specs.Image.{headBytes}
+use Rattle.image.proofs.store.head_bytes.Statement.{statement}
+use Rattle.image.proofs.store.head_bytes.Tie as tie
+
+pub head-bytes-spec : {M : Type 1} → statement M
+unfolding headBytes
+head-bytes-spec =
+    tie.close
+    (tie.spec
+    (λ c κs. search needs)
+    (λ c κs. search needs)
+    (λ c κs. search needs)
+    (λ c κs. search needs)
+    (λ c. simp (c .before .before .before .high .ensures, c .before .before .low .ensures, c .before .high2 .ensures, c .low2 .ensures)))

@@ -1,0 +1,260 @@
+-- A table reads back as it was written, and an image that reads is rewritten the same.
+-- Assumes nothing.
+use mathlib.Core.Path.{_≡_, refl, sym, _∙_, ap, ap₂}
+use mathlib.Core.Bool.{Bool, true, false}
+use mathlib.Core.List.{List, [], _∷_, _++_}
+use mathlib.Core.Logic.{⊎-elim}
+use Prim.Native.Nat.{ℕ, _+_, _-_, _*_, _/_, _%_, _≤_, _<_, _^_}
+use native.Mathlib.Omega.{arith}
+use lib.Dec.{ltb, leb, eqb}
+use lib.ListN.{length, getD}
+use borrow.Author.Tests.{lt-ltb, le-ltb, le-leb, leb-true, ltb-true, eq-eqb, eqb-true}
+use Rattle.lists.specs.Bits.{bit, one}
+use Rattle.lists.specs.Every.{every-at, every-of}
+use Rattle.lists.specs.Places.{side, tabulate, length-tabulate, getD-tabulate, tabulated}
+use Rattle.lists.specs.Table.{and-left, and-right, all, entry}
+use Rattle.power.specs.Power.{tenths}
+use Rattle.words.specs.declared.status.Latches.{Latches}
+use Rattle.port.specs.declared.form.Port.{Port}
+use Rattle.port.specs.declared.form.State.{State}
+use Rattle.port.specs.declared.form.State.the-variants.{Disabled, Idle, Detecting, Backoff, Classifying, PowerUp, PowerOn, ErrorDelay, TestMode, TestError}
+use Rattle.table.specs.Form.{noPort, portAt}
+use Rattle.table.specs.declared.form.Table.{Table}
+use Rattle.image.specs.Image.{codeOf, latchByte, word, portBytes, headBytes, byteAt, imageOf}
+use Rattle.image.specs.Load.{stateOf, latchesOf, wordAt, countsIn, portIn, portReads, tableOf, reads, reads-long, loaded}
+
+-- a state's code names it
+pub state-back : (s : State) → stateOf (codeOf s) ≡ s
+state-back Disabled = refl
+state-back Idle = refl
+state-back Detecting = refl
+state-back Backoff = refl
+state-back Classifying = refl
+state-back PowerUp = refl
+state-back PowerOn = refl
+state-back ErrorDelay = refl
+state-back TestMode = refl
+state-back TestError = refl
+
+pub code-small : (s : State) → codeOf s ≤ 9
+code-small Disabled = omega arith
+code-small Idle = omega arith
+code-small Detecting = omega arith
+code-small Backoff = omega arith
+code-small Classifying = omega arith
+code-small PowerUp = omega arith
+code-small PowerOn = omega arith
+code-small ErrorDelay = omega arith
+code-small TestMode = omega arith
+code-small TestError = omega arith
+
+-- a code up to 9 is the code of the state that it names
+pub code-again : (n : ℕ) → n ≤ 9 → codeOf (stateOf n) ≡ n
+unfolding all tabulate
+code-again n h =
+    ap (λ (m : ℕ). codeOf (stateOf m)) (sym (getD-tabulate 10 (λ k. k) 0 n (omega arith)))
+    ∙ eqb-true _ _ (entry (λ m. eqb (codeOf (stateOf m)) m) 0 (tabulate 10 (λ k. k)) refl n (omega arith))
+    ∙ getD-tabulate 10 (λ k. k) 0 n (omega arith)
+
+one-small : (b : Bool) → one b ≤ 1
+one-small true = omega arith
+one-small false = omega arith
+
+bit-one : (n : ℕ) (b : Bool) → n ≡ one b → eqb n 1 ≡ b
+bit-one n true e = eq-eqb n 1 e
+bit-one n false e = ap (λ (m : ℕ). eqb m 1) e
+
+-- each latch has its own bit
+pub latches-back : (l : Latches) → latchesOf (latchByte l) ≡ l
+unfolding latchesOf latchByte bit
+latches-back l =
+    let d = one-small (l .denied) in
+    let v = one-small (l .valid) in
+    let i = one-small (l .invalid) in
+    let s = one-small (l .short) in
+    let o = one-small (l .overload) in
+    let a = one-small (l .absent) in
+    λ k.
+    record {
+      denied = bit-one (latchByte l / 2 ^ 5 % 2) (l .denied) (omega arith) k;
+      valid = bit-one (latchByte l / 2 ^ 4 % 2) (l .valid) (omega arith) k;
+      invalid = bit-one (latchByte l / 2 ^ 3 % 2) (l .invalid) (omega arith) k;
+      short = bit-one (latchByte l / 2 ^ 2 % 2) (l .short) (omega arith) k;
+      overload = bit-one (latchByte l / 2 ^ 1 % 2) (l .overload) (omega arith) k;
+      absent = bit-one (latchByte l / 2 ^ 0 % 2) (l .absent) (omega arith) k;
+    }
+
+pub latches-small : (l : Latches) → latchByte l < 64
+unfolding latchByte
+latches-small l = omega (arith, one-small (l .denied), one-small (l .valid), one-small (l .invalid), one-small (l .short), one-small (l .overload), one-small (l .absent))
+
+-- a byte below 64 is the latches that it names
+pub latches-again : (n : ℕ) → n < 64 → latchByte (latchesOf n) ≡ n
+unfolding all tabulate latchByte latchesOf bit
+latches-again n h =
+    ap (λ (m : ℕ). latchByte (latchesOf m)) (sym (getD-tabulate 64 (λ k. k) 0 n h))
+    ∙ eqb-true _ _ (entry (λ m. eqb (latchByte (latchesOf m)) m) 0 (tabulate 64 (λ k. k)) refl n h)
+    ∙ getD-tabulate 64 (λ k. k) 0 n h
+
+-- the bytes of a port in the image
+image-at : (t : Table) (p q i : ℕ) → p < 48 → q < 21 → i ≡ 6 + 21 * p + q → getD (imageOf t) i 0 ≡ getD (portBytes (portAt t p)) q 0
+unfolding imageOf byteAt
+image-at t p q i hp hq e =
+    let d : (i - 6) / 21 ≡ p = omega arith in
+    let m : (i - 6) % 21 ≡ q = omega arith in
+    getD-tabulate 1014 (byteAt t) 0 i (omega arith) ∙ simp (le-ltb i 6 (omega arith), d, m)
+
+image-head : (t : Table) (i : ℕ) → i < 6 → getD (imageOf t) i 0 ≡ getD (headBytes t) i 0
+unfolding imageOf byteAt
+image-head t i h = getD-tabulate 1014 (byteAt t) 0 i (omega arith) ∙ simp (lt-ltb i 6 h)
+
+pub image-long : (t : Table) → length (imageOf t) ≡ 1014
+unfolding imageOf
+image-long t = length-tabulate 1014 (byteAt t)
+
+module _ (t : Table) (p : ℕ) (h : p < 48) where
+  abbrev port : Port
+  port = portAt t p
+
+  -- a number of two bytes in a port's image
+  word-back : (w q i : ℕ) → q < 20 → i ≡ 6 + 21 * p + q → getD (portBytes port) q 0 ≡ w / 256 → getD (portBytes port) (q + 1) 0 ≡ w % 256 → wordAt (imageOf t) i ≡ w
+  unfolding wordAt
+  word-back w q i l e x y = omega (arith, image-at t p q i h (omega arith) e, image-at t p (q + 1) (i + 1) h (omega arith) (omega arith))
+
+  counts-back : countsIn (imageOf t) (6 + 21 * p + 7) ≡ port .counts
+  unfolding countsIn portBytes
+  counts-back =
+      λ k.
+      record {
+        detection = word-back (port .counts .detection) 7 (6 + 21 * p + 7) (omega arith) (omega arith) refl refl k;
+        backoff = word-back (port .counts .backoff) 9 (6 + 21 * p + 7 + 2) (omega arith) (omega arith) refl refl k;
+        «error_delay» = word-back (port .counts .«error_delay») 11 (6 + 21 * p + 7 + 4) (omega arith) (omega arith) refl refl k;
+        «power_on» = word-back (port .counts .«power_on») 13 (6 + 21 * p + 7 + 6) (omega arith) (omega arith) refl refl k;
+        limiting = word-back (port .counts .limiting) 15 (6 + 21 * p + 7 + 8) (omega arith) (omega arith) refl refl k;
+        overload = word-back (port .counts .overload) 17 (6 + 21 * p + 7 + 10) (omega arith) (omega arith) refl refl k;
+        «no_load» = word-back (port .counts .«no_load») 19 (6 + 21 * p + 7 + 12) (omega arith) (omega arith) refl refl k;
+      }
+
+  port-back : portIn (imageOf t) (6 + 21 * p) ≡ port
+  unfolding portIn portBytes
+  port-back =
+      let counts = counts-back in
+      λ k.
+      record {
+        state = (ap stateOf (image-at t p 0 (6 + 21 * p) h (omega arith) (omega arith)) ∙ state-back (port .state)) k;
+        class = image-at t p 3 (6 + 21 * p + 3) h (omega arith) (omega arith) k;
+        control = word-back (port .control) 1 (6 + 21 * p + 1) (omega arith) (omega arith) refl refl k;
+        demand = ap tenths (word-back (port .demand .0) 4 (6 + 21 * p + 4) (omega arith) (omega arith) refl refl) k;
+        latches = (ap latchesOf (image-at t p 6 (6 + 21 * p + 6) h (omega arith) (omega arith)) ∙ latches-back (port .latches)) k;
+        counts = counts k;
+      }
+
+  port-takes : portReads (imageOf t) (6 + 21 * p) ≡ true
+  unfolding portReads portBytes
+  port-takes =
+      let a = image-at t p 0 (6 + 21 * p) h (omega arith) (omega arith) in
+      let b = image-at t p 6 (6 + 21 * p + 6) h (omega arith) (omega arith) in
+      simp (a, b, le-leb _ _ (code-small (port .state)), lt-ltb _ _ (latches-small (port .latches)))
+
+  port-there : getD (t .ports) p noPort ≡ portIn (imageOf t) (6 + 21 * p)
+  unfolding portAt
+  port-there = sym port-back
+
+pub table-back : (t : Table) → length (t .ports) ≡ 48 → tableOf (imageOf t) ≡ t
+unfolding tableOf wordAt headBytes
+table-back t l =
+    let c0 = image-head t 0 (omega arith) in
+    let c1 = image-head t 1 (omega arith) in
+    let s4 = image-head t 4 (omega arith) in
+    let s5 = image-head t 5 (omega arith) in
+    let count : wordAt (imageOf t) 0 ≡ t .count = omega arith in
+    let supply : wordAt (imageOf t) 4 ≡ t .supply .0 = omega arith in
+    let ports = tabulated 48 (λ p. portIn (imageOf t) (6 + 21 * p)) noPort (t .ports) l (port-there t) in
+    λ k. record { ports = sym ports k; count = count k; supply = ap tenths supply k }
+
+pub image-reads : (t : Table) → reads (imageOf t) ≡ true
+unfolding reads wordAt headBytes
+image-reads t =
+    let a = image-head t 2 (omega arith) in
+    let b = image-head t 3 (omega arith) in
+    let supply : wordAt (imageOf t) 2 ≡ 0 = omega arith in
+    simp (eq-eqb _ _ (image-long t), eq-eqb _ _ supply, every-of 48 (λ p. portReads (imageOf t) (6 + 21 * p)) (port-takes t))
+
+-- a table reads back as it was written
+pub reads-back : (t : Table) → length (t .ports) ≡ 48 → loaded (imageOf t) ≡ record { table = t; ok = true }
+unfolding loaded
+reads-back t l = simp (image-reads t, table-back t l)
+
+-- bytes that are an image
+module _ (bytes : List ℕ) (octets : (k : ℕ) → getD bytes k 0 < 256) where
+  high-again : (i j : ℕ) → i ≡ j → wordAt bytes i / 256 ≡ getD bytes j 0
+  unfolding wordAt
+  high-again i j e = let h = octets (i + 1) in let b : wordAt bytes i / 256 ≡ getD bytes i 0 = omega arith in b ∙ ap (λ (n : ℕ). getD bytes n 0) e
+
+  low-again : (i j : ℕ) → i + 1 ≡ j → wordAt bytes i % 256 ≡ getD bytes j 0
+  unfolding wordAt
+  low-again i j e = let h = octets (i + 1) in let b : wordAt bytes i % 256 ≡ getD bytes (i + 1) 0 = omega arith in b ∙ ap (λ (n : ℕ). getD bytes n 0) e
+
+  -- a number of two bytes, as it is written again
+  word-again : (i j k : ℕ) (r s : List ℕ) → i ≡ j → i + 1 ≡ k → r ≡ s → word (wordAt bytes i) ++ r ≡ getD bytes j 0 ∷ getD bytes k 0 ∷ s
+  word-again i j k r s e f g = ap₂ _∷_ (high-again i j e) (ap₂ _∷_ (low-again i k f) g)
+
+  port-again : (at : ℕ) → portReads bytes at ≡ true → portBytes (portIn bytes at) ≡ tabulate 21 (λ q. getD bytes (at + q) 0)
+  unfolding portBytes portIn countsIn portReads tabulate
+  port-again at e =
+      let state = leb-true _ _ (and-left (leb (getD bytes at 0) 9) (ltb (getD bytes (at + 6) 0) 64) e) in
+      let latches = ltb-true _ _ (and-right (leb (getD bytes at 0) 9) (ltb (getD bytes (at + 6) 0) 64) e) in
+      ap₂ _∷_ (code-again (getD bytes at 0) state ∙ ap (λ (n : ℕ). getD bytes n 0) (omega arith))
+      (word-again (at + 1) (at + 1) (at + 2) _ _ refl (omega arith)
+      (ap₂ _∷_ refl
+      (word-again (at + 4) (at + 4) (at + 5) _ _ refl (omega arith)
+      (ap₂ _∷_ (latches-again (getD bytes (at + 6) 0) latches)
+      (word-again (at + 7) (at + 7) (at + 8) _ _ refl (omega arith)
+      (word-again (at + 7 + 2) (at + 9) (at + 10) _ _ (omega arith) (omega arith)
+      (word-again (at + 7 + 4) (at + 11) (at + 12) _ _ (omega arith) (omega arith)
+      (word-again (at + 7 + 6) (at + 13) (at + 14) _ _ (omega arith) (omega arith)
+      (word-again (at + 7 + 8) (at + 15) (at + 16) _ _ (omega arith) (omega arith)
+      (word-again (at + 7 + 10) (at + 17) (at + 18) _ _ (omega arith) (omega arith)
+      (word-again (at + 7 + 12) (at + 19) (at + 20) [] [] (omega arith) (omega arith) refl)))))))))))
+
+  module _ (read : reads bytes ≡ true) where
+    supply-again : wordAt bytes 2 ≡ 0
+    unfolding reads
+    supply-again = eqb-true _ _ (and-left (eqb (wordAt bytes 2) 0) _ (and-right (eqb (length bytes) 1014) _ read))
+
+    port-read : (p : ℕ) → p < 48 → portReads bytes (6 + 21 * p) ≡ true
+    unfolding reads
+    port-read = every-at 48 (λ p. portReads bytes (6 + 21 * p)) (and-right (eqb (wordAt bytes 2) 0) _ (and-right (eqb (length bytes) 1014) _ read))
+
+    head-again : headBytes (tableOf bytes) ≡ tabulate 6 (λ q. getD bytes q 0)
+    unfolding headBytes tableOf tabulate wordAt
+    head-again =
+        let e = supply-again in
+        word-again 0 0 1 _ _ refl refl
+        (ap₂ _∷_ (omega arith)
+        (ap₂ _∷_ (omega arith)
+        (word-again 4 4 5 [] [] refl refl refl)))
+
+    port-at : (p : ℕ) → p < 48 → portAt (tableOf bytes) p ≡ portIn bytes (6 + 21 * p)
+    unfolding portAt tableOf
+    port-at p h = getD-tabulate 48 (λ p. portIn bytes (6 + 21 * p)) noPort p h
+
+    byte-again : (k : ℕ) → k < 1014 → getD bytes k 0 ≡ byteAt (tableOf bytes) k
+    unfolding byteAt
+    byte-again k h =
+        ⊎-elim
+        (λ (l : k < 6). simp (lt-ltb k 6 l, head-again) (sym (getD-tabulate 6 (λ q. getD bytes q 0) 0 k l)))
+        (λ (l : 6 ≤ k).
+        let p = (k - 6) / 21 in
+        let q = (k - 6) % 21 in
+        let a : p < 48 = omega arith in
+        let b : q < 21 = omega arith in
+        let e : 6 + 21 * p + q ≡ k = omega arith in
+        simp (le-ltb k 6 l, port-at p a, port-again (6 + 21 * p) (port-read p a))
+        (sym (getD-tabulate 21 (λ q. getD bytes (6 + 21 * p + q) 0) 0 q b ∙ ap (λ (n : ℕ). getD bytes n 0) e)))
+        (side k 6)
+
+    -- an image that reads is rewritten the same
+    pub rewritten : imageOf (tableOf bytes) ≡ bytes
+    unfolding imageOf
+    rewritten = sym (tabulated 1014 (byteAt (tableOf bytes)) 0 bytes (reads-long bytes read) byte-again)
