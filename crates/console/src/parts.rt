@@ -82,12 +82,9 @@ fn more(n: u64, b: u8) -> Number {
     Number::Is(10 * n + d)
 }
 
-// At most 20 digits, with zeros in front or not.
+// Zeros may stand in front: what counts is the number.
 pub fn number_of(word: &[u8]) -> Number {
     if word.len() < 1 {
-        return Number::Bad;
-    }
-    if 20 < word.len() {
         return Number::Bad;
     }
     let mut n: u64 = 0;

@@ -9,10 +9,11 @@ use native.Mathlib.Omega.{arith}
 use lib.Dec.{ltb, leb, eqb}
 use lib.ListN.{length, getD}
 use borrow.Author.Tests.{lt-ltb, le-ltb, le-leb, leb-true, ltb-true, eq-eqb, eqb-true}
-use Rattle.lists.specs.Bits.{bit, one}
+use Rattle.lists.specs.Bits.{bit, one-small, one-says}
 use Rattle.lists.specs.Every.{every-at, every-of}
 use Rattle.lists.specs.Places.{side, tabulate, length-tabulate, getD-tabulate, tabulated}
-use Rattle.lists.specs.Table.{and-left, and-right, all, entry}
+use Rattle.lists.specs.Table.{all, entry}
+use Rattle.lists.specs.Tests.{and-left, and-right}
 use Rattle.power.specs.Power.{tenths}
 use Rattle.words.specs.declared.status.Latches.{Latches}
 use Rattle.port.specs.declared.form.Port.{Port}
@@ -56,14 +57,6 @@ code-again n h =
     ∙ eqb-true _ _ (entry (λ m. eqb (codeOf (stateOf m)) m) 0 (tabulate 10 (λ k. k)) refl n (omega arith))
     ∙ getD-tabulate 10 (λ k. k) 0 n (omega arith)
 
-one-small : (b : Bool) → one b ≤ 1
-one-small true = omega arith
-one-small false = omega arith
-
-bit-one : (n : ℕ) (b : Bool) → n ≡ one b → eqb n 1 ≡ b
-bit-one n true e = eq-eqb n 1 e
-bit-one n false e = ap (λ (m : ℕ). eqb m 1) e
-
 -- each latch has its own bit
 pub latches-back : (l : Latches) → latchesOf (latchByte l) ≡ l
 unfolding latchesOf latchByte bit
@@ -76,12 +69,12 @@ latches-back l =
     let a = one-small (l .absent) in
     λ k.
     record {
-      denied = bit-one (latchByte l / 2 ^ 5 % 2) (l .denied) (omega arith) k;
-      valid = bit-one (latchByte l / 2 ^ 4 % 2) (l .valid) (omega arith) k;
-      invalid = bit-one (latchByte l / 2 ^ 3 % 2) (l .invalid) (omega arith) k;
-      short = bit-one (latchByte l / 2 ^ 2 % 2) (l .short) (omega arith) k;
-      overload = bit-one (latchByte l / 2 ^ 1 % 2) (l .overload) (omega arith) k;
-      absent = bit-one (latchByte l / 2 ^ 0 % 2) (l .absent) (omega arith) k;
+      denied = one-says (l .denied) (latchByte l / 2 ^ 5 % 2) (omega arith) k;
+      valid = one-says (l .valid) (latchByte l / 2 ^ 4 % 2) (omega arith) k;
+      invalid = one-says (l .invalid) (latchByte l / 2 ^ 3 % 2) (omega arith) k;
+      short = one-says (l .short) (latchByte l / 2 ^ 2 % 2) (omega arith) k;
+      overload = one-says (l .overload) (latchByte l / 2 ^ 1 % 2) (omega arith) k;
+      absent = one-says (l .absent) (latchByte l / 2 ^ 0 % 2) (omega arith) k;
     }
 
 pub latches-small : (l : Latches) → latchByte l < 64

@@ -9,7 +9,7 @@ use borrow.Author.Tests.{eqb-true}
 use Rattle.lists.specs.Bits.{bit}
 use Rattle.lists.specs.Every.{every}
 use Rattle.lists.specs.Places.{tabulate}
-use Rattle.lists.specs.Table.{and-left}
+use Rattle.lists.specs.Tests.{and-left}
 use Rattle.power.specs.Power.{tenths}
 use Rattle.words.specs.declared.status.Latches.{Latches}
 use Rattle.port.specs.declared.form.Counts.{Counts}

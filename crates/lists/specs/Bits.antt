@@ -1,9 +1,10 @@
 -- Bits and fields of a word, as a document numbers them: bit 0 is the lowest.
 -- Assumes nothing.
-use Prim.Native.Nat.{ℕ, _*_, _/_, _%_, _^_}
+use Prim.Native.Nat.{ℕ, _*_, _/_, _%_, _^_, _≤_}
 use mathlib.Core.Path.{_≡_}
 use mathlib.Core.Bool.{Bool, true, false, cond}
 use native.Mathlib.Nat.{div-one}
+use native.Mathlib.Omega.{arith}
 use lib.Dec.{eqb, leb}
 
 -- bit k of n is 1
@@ -22,6 +23,15 @@ above k n = leb (2 ^ k) n
 abbrev pub one : Bool → ℕ
 one true = 1
 one false = 0
+
+pub one-small : (b : Bool) → one b ≤ 1
+one-small true = omega arith
+one-small false = omega arith
+
+-- the flag that a number of one bit says
+pub one-says : (b : Bool) (n : ℕ) → n ≡ one b → eqb n 1 ≡ b
+one-says true n e = rw e
+one-says false n e = rw e
 
 -- what a flag counts at place k
 abbrev pub place : ℕ → Bool → ℕ

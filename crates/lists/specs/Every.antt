@@ -7,7 +7,7 @@ use Prim.Native.Nat.{ℕ, zero, suc, _+_, _<_}
 use native.Mathlib.Nat.{le-refl, le-of-suc-le-suc, not-suc-le-zero, eq-or-lt-of-le}
 use native.Mathlib.Numerals.{add-one}
 use native.Mathlib.Omega.{arith}
-use Rattle.lists.specs.Table.{and-left, and-right}
+use Rattle.lists.specs.Tests.{and-left, and-right}
 
 unfoldable pub every : ℕ → (ℕ → Bool) → Bool
 every zero f = true

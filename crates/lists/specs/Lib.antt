@@ -3,4 +3,5 @@ pub mod Count
 pub mod Every
 pub mod Places
 pub mod Table
+pub mod Tests
 pub mod Total

@@ -1,11 +1,12 @@
 -- A rule of a table, proved at all of its entries by one test that the checker computes over the whole table.
 -- Assumes nothing.
 use mathlib.Core.Path.{_≡_, refl}
-use mathlib.Core.Bool.{Bool, true, false, _&&_, _||_, false≢true}
+use mathlib.Core.Bool.{Bool, true, false, _&&_, _||_}
 use mathlib.Core.List.{List, [], _∷_}
 use Prim.Native.Nat.{ℕ, zero, suc, _<_}
 use native.Mathlib.Nat.{le-of-suc-le-suc, not-suc-le-zero}
 use lib.ListN.{length, getD}
+use Rattle.lists.specs.Tests.{and-left, and-right}
 
 module _ {A : Type 0} where
   -- the test f passes at each entry of the table
@@ -17,14 +18,6 @@ module _ {A : Type 0} where
   unfoldable pub some : (A → Bool) → List A → Bool
   some f [] = false
   some f (x ∷ xs) = f x || some f xs
-
-pub and-left : (a b : Bool) → (a && b) ≡ true → a ≡ true
-and-left true b e = refl
-and-left false b e = e
-
-pub and-right : (a b : Bool) → (a && b) ≡ true → b ≡ true
-and-right true b e = e
-and-right false b e = absurd (false≢true e)
 
 -- what the test shows of the whole table holds of each entry
 pub entry : {A : Type 0} (f : A → Bool) (d : A) (xs : List A) → all f xs ≡ true → (k : ℕ) → k < length xs → f (getD xs k d) ≡ true

@@ -5,6 +5,7 @@ use mathlib.Core.Path.{_≡_, refl}
 use mathlib.Core.Bool.{Bool, true, false, cond}
 use lib.Dec.{leb, eqb}
 use Rattle.lists.specs.Table.{all, some, entry-or}
+use Rattle.lists.specs.Tests.{choice}
 use Rattle.power.specs.Power.{tenths}
 use Rattle.reading.specs.Class.{classOf, isFour, classOfTwo, budgets, budgetOf, isDemand}
 use Rattle.reading.specs.declared.class.Class.{Class}
@@ -21,21 +22,20 @@ abbrev pub atMostFour : Class → Bool
 atMostFour (Is k) = leb k 4
 atMostFour Failure = true
 
-picked : (t : Bool) (a b : Class) → atMostFour a ≡ true → atMostFour b ≡ true → atMostFour (cond t a b) ≡ true
-picked true a b p q = p
-picked false a b p q = q
+abbrev FourOrLess : Class → Type 0
+FourOrLess c = atMostFour c ≡ true
 
 pub class-at-most-four : (current : ℕ) → atMostFour (classOf current) ≡ true
 unfolding classOf
 class-at-most-four i =
-    picked (leb i 5000) _ _ refl
-    (picked (leb i 13000) _ _ refl
-    (picked (leb i 21000) _ _ refl
-    (picked (leb i 31000) _ _ refl
-    (picked (leb i 45000) _ _ refl
+    choice FourOrLess (leb i 5000) _ _ refl
+    (choice FourOrLess (leb i 13000) _ _ refl
+    (choice FourOrLess (leb i 21000) _ _ refl
+    (choice FourOrLess (leb i 31000) _ _ refl
+    (choice FourOrLess (leb i 45000) _ _ refl
     refl))))
 
 pub class-of-two-at-most-four : (c1 c2 : ℕ) → atMostFour (classOfTwo c1 c2) ≡ true
 unfolding classOfTwo
 class-of-two-at-most-four c1 c2 =
-    picked (isFour (classOf c1)) _ _ (picked (isFour (classOf c2)) _ _ refl refl) (class-at-most-four c1)
+    choice FourOrLess (isFour (classOf c1)) _ _ (choice FourOrLess (isFour (classOf c2)) _ _ refl refl) (class-at-most-four c1)

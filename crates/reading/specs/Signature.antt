@@ -1,3 +1,4 @@
+-- Document 01, "Samples": the signature, from two voltages and two currents.
 use Prim.Native.Nat.{ℕ}
 use mathlib.Core.Bool.{Bool, cond, _||_, _&&_}
 use lib.Dec.{ltb}

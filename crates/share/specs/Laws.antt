@@ -8,32 +8,10 @@ use native.Mathlib.Nat.{le-refl, le-trans, lt-of-lt-of-le, add-le-add, add-zero,
 use native.Mathlib.Omega.{arith}
 use lib.Dec.{ltb, eqb}
 use borrow.Author.Tests.{lt-ltb, le-ltb, le-leb, eq-eqb, ne-eqb, ltb-true, leb-true, leb-false, eqb-true}
-use Rattle.lists.specs.Table.{and-left, and-right}
+use Rattle.lists.specs.Tests.{passed, not-both, and-left, and-right, and-both, or-either, or-left, or-right}
 use Rattle.lists.specs.Total.{total, total-cong, total-mono, total-zero, total-plus}
 use Rattle.lists.specs.Places.{side}
 use Rattle.share.specs.Share.{claims, before, met, sumWhere, down, keeps, keptSum, claimedSum}
-
-and-both : (a b : Bool) → a ≡ true → b ≡ true → (a && b) ≡ true
-and-both a b e f = simp (e, f)
-
-or-either : (a b : Bool) → (a || b) ≡ true → (a ≡ true) ⊎ (b ≡ true)
-or-either true b e = inl refl
-or-either false b e = inr e
-
-or-left : (a b : Bool) → a ≡ true → (a || b) ≡ true
-or-left a b e = simp e
-
-or-right : (a b : Bool) → b ≡ true → (a || b) ≡ true
-or-right true b e = refl
-or-right false b e = e
-
--- a test is passed or not
-pub passed : (a : Bool) → (a ≡ true) ⊎ (a ≡ false)
-passed true = inl refl
-passed false = inr refl
-
-not-both : (a : Bool) → a ≡ true → a ≡ false → ⊥
-not-both a e f = false≢true (sym f ∙ e)
 
 less : (a b : Bool) (d : ℕ) → (a ≡ true → b ≡ true) → cond a d 0 ≤ cond b d 0
 less true b d h = rw (h refl) (le-refl d)

@@ -26,6 +26,7 @@ use Rattle.table.specs.WellMade.{wellCounts, wellPort, wellMade}
 use Rattle.table.specs.declared.form.Answer.the-variants.{Done}
 use Rattle.table.specs.declared.form.Status.the-variants.{Word}
 use Rattle.table.specs.declared.form.Table.{Table}
+use Rattle.statements.specs.MoveRows.{counts}
 use Rattle.statements.specs.Statement1.{Outcome, value, number, told, statusTold, tickTold}
 
 -- a port with a state, a class, a control word, a demand and counters
@@ -42,9 +43,6 @@ table n supply p q = record { ports = p ∷ q ∷ replicate 46 coldPort; count =
 -- a port of which one thing alone is in question, at place 0 of a table of one port
 abbrev alone : Port → Table
 alone p = table 1 0 p coldPort
-
-abbrev counts : ℕ → ℕ → ℕ → ℕ → ℕ → ℕ → ℕ → Counts
-counts a b c d e f g = record { detection = a; backoff = b; «error_delay» = c; «power_on» = d; limiting = e; overload = f; «no_load» = g }
 
 -- "ill-made table: port count 0 or over 48; a stored supply over 60,000; or, in a port below the count, a counter over 2,000, a class over 4,
 -- a control word that a write refuses with 3, or a demand not 0, 40, 70, 154 or 300"

@@ -8,6 +8,7 @@ use native.Mathlib.Omega.{arith}
 use native.Mathlib.Nat.{le-refl}
 use lib.Dec.{leb}
 use borrow.Author.Tests.{leb-true}
+use Rattle.lists.specs.Tests.{choice}
 use Rattle.power.specs.declared.Power.{Power}
 use Rattle.words.specs.Control.{enableOf, pairOf, priorityOf}
 use Rattle.words.specs.declared.control.Priority.{Priority}
@@ -28,24 +29,19 @@ use Rattle.port.specs.declared.form.State.{State}
 use Rattle.port.specs.declared.form.State.the-variants.{Disabled, Idle, Detecting, Backoff, Classifying, PowerUp, PowerOn, ErrorDelay, TestMode, TestError}
 use Rattle.table.specs.Calls.{draws}
 
--- a choice of two that are right is right
-pub both : {X : Type 0} (P : X → Type 0) (t : Bool) (a b : X) → P a → P b → P (cond t a b)
-both P true a b p q = p
-both P false a b p q = q
-
 -- an open port's move leaves it open
 abbrev Opened : Moved → Type 0
 Opened m = closed (m .port .state) ≡ false
 
 open-idle : (claim : Power) (p : Port) → closed (p .state) ≡ false → Opened (idle claim p)
 unfolding idle enterDetecting
-open-idle claim p e = both Opened (isOn (enableOf (p .control))) _ _ refl (both Opened (isForced (enableOf (p .control))) _ _ e e)
+open-idle claim p e = choice Opened (isOn (enableOf (p .control))) _ _ refl (choice Opened (isForced (enableOf (p .control))) _ _ e e)
 
 open-detected : (d : Detection) (q : Port) → closed (q .state) ≡ false → Opened (detected d q)
 unfolding detected enterClassifying enterIdle enterBackoff
 open-detected NotDone q e = e
 open-detected Valid q e = refl
-open-detected Invalid q e = both (λ (x : Port). closed (x .state) ≡ false) (isB (pairOf (q .control))) (enterBackoff q) (enterIdle q) refl refl
+open-detected Invalid q e = choice (λ (x : Port). closed (x .state) ≡ false) (isB (pairOf (q .control))) (enterBackoff q) (enterIdle q) refl refl
 open-detected Open q e = refl
 
 open-classed : (k : Classing) (q : Port) → closed (q .state) ≡ false → Opened (classed k q)
@@ -62,29 +58,29 @@ open-detecting : (p : Port) (r : Reading) → closed (p .state) ≡ false → Op
 unfolding detecting enterIdle
 open-detecting p r e =
     let q = withCounts (detectionAt (up (p .counts .detection)) (p .counts)) p in
-    both Opened (leb 500 (q .counts .detection)) (quietly (enterIdle q)) (detected (r .detection) q) refl (open-detected (r .detection) q e)
+    choice Opened (leb 500 (q .counts .detection)) (quietly (enterIdle q)) (detected (r .detection) q) refl (open-detected (r .detection) q e)
 
 open-backoff : (p : Port) → closed (p .state) ≡ false → Opened (backoff p)
 unfolding backoff enterIdle Left
 open-backoff p e =
     let q = withCounts (backoffAt (up (p .counts .backoff)) (p .counts)) p in
-    both Left (leb 2000 (q .counts .backoff)) (enterIdle q) q refl e
+    choice Left (leb 2000 (q .counts .backoff)) (enterIdle q) q refl e
 
 open-error-delay : (p : Port) → closed (p .state) ≡ false → Opened (errorDelay p)
 unfolding errorDelay enterIdle Left
 open-error-delay p e =
     let q = withCounts (errorDelayAt (up (p .counts .«error_delay»)) (p .counts)) p in
-    both Left (leb 750 (q .counts .«error_delay»)) (enterIdle q) q refl e
+    choice Left (leb 750 (q .counts .«error_delay»)) (enterIdle q) q refl e
 
 open-classifying : (p : Port) (r : Reading) → closed (p .state) ≡ false → Opened (classifying p r)
 unfolding classifying enterIdle
 open-classifying p r e =
     let q = withCounts (powerOnAt (up (p .counts .«power_on»)) (p .counts)) p in
-    both Opened (leb 400 (q .counts .«power_on»)) (quietly (enterIdle q)) (classed (r .class) q) refl (open-classed (r .class) q e)
+    choice Opened (leb 400 (q .counts .«power_on»)) (quietly (enterIdle q)) (classed (r .class) q) refl (open-classed (r .class) q e)
 
 open-test-error : (p : Port) → closed (p .state) ≡ false → Opened (testError p)
 unfolding testError enterIdle Left
-open-test-error p e = both Left (isForced (enableOf (p .control))) p (enterIdle p) e refl
+open-test-error p e = choice Left (isForced (enableOf (p .control))) p (enterIdle p) e refl
 
 open-state : (s : State) (claim : Power) (p : Port) (r : Reading) → closed s ≡ false → closed (p .state) ≡ false → Opened (byState s claim p r)
 unfolding byState enterIdle
@@ -102,13 +98,13 @@ open-state TestError claim p r g e = open-test-error p e
 pub open-stays : (claim : Power) (p : Port) (r : Reading) → closed (p .state) ≡ false → closed (step claim p r .port .state) ≡ false
 unfolding step enterIdle enterDisabled
 open-stays claim p r e =
-    both Opened (isOff (enableOf (p .control))) _ _ refl
-    (both Opened (isForced (enableOf (p .control)) && givesWay (p .state)) _ _ refl (open-state (p .state) claim p r e e))
+    choice Opened (isOff (enableOf (p .control))) _ _ refl
+    (choice Opened (isForced (enableOf (p .control)) && givesWay (p .state)) _ _ refl (open-state (p .state) claim p r e e))
 
 -- a shed port is open
 pub shed-open : (p : Port) → closed (shed p .port .state) ≡ false
 unfolding shed enterTestError enterIdle
-shed-open p = both (λ (x : Port). closed (x .state) ≡ false) (inTest (p .state)) (enterTestError p) (enterIdle p) refl refl
+shed-open p = choice (λ (x : Port). closed (x .state) ≡ false) (inTest (p .state)) (enterTestError p) (enterIdle p) refl refl
 
 -- a port that is granted its state keeps its demand
 pub granted-demand : (s : State) (p : Port) → granted s p .demand ≡ p .demand
@@ -127,7 +123,7 @@ granted-demand TestError p = refl
 -- a port draws at most its demand, and nothing while it is open
 pub draws-at-most : (p : Port) → draws p ≤ p .demand .0
 unfolding draws
-draws-at-most p = both (λ (n : ℕ). n ≤ p .demand .0) (closed (p .state)) (p .demand .0) 0 (le-refl (p .demand .0)) (omega arith)
+draws-at-most p = choice (λ (n : ℕ). n ≤ p .demand .0) (closed (p .state)) (p .demand .0) 0 (le-refl (p .demand .0)) (omega arith)
 
 pub draws-open : (p : Port) → closed (p .state) ≡ false → draws p ≡ 0
 unfolding draws

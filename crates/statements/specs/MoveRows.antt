@@ -70,21 +70,21 @@ reserved = 0x0007
 abbrev on-b : ℕ
 on-b = 0x0009
 
-abbrev all : ℕ → ℕ → ℕ → ℕ → ℕ → ℕ → ℕ → Counts
-all a b c d e f g = record { detection = a; backoff = b; «error_delay» = c; «power_on» = d; limiting = e; overload = f; «no_load» = g }
+abbrev pub counts : ℕ → ℕ → ℕ → ℕ → ℕ → ℕ → ℕ → Counts
+counts a b c d e f g = record { detection = a; backoff = b; «error_delay» = c; «power_on» = d; limiting = e; overload = f; «no_load» = g }
 
 -- the counters that run in a state at a number, the others at 0: a rule that looked at another's would miss its limit
 abbrev running : State → ℕ → Counts
-running Disabled n = all 0 0 0 0 0 0 0
-running Idle n = all 0 0 0 0 0 0 0
-running Detecting n = all n 0 0 0 0 0 0
-running Backoff n = all 0 n 0 0 0 0 0
-running Classifying n = all 0 0 0 n 0 0 0
-running PowerUp n = all 0 0 0 n n n 0
-running PowerOn n = all 0 0 0 0 n n n
-running ErrorDelay n = all 0 0 n 0 0 0 0
-running TestMode n = all 0 0 0 0 n n 0
-running TestError n = all 0 0 0 0 0 0 0
+running Disabled n = counts 0 0 0 0 0 0 0
+running Idle n = counts 0 0 0 0 0 0 0
+running Detecting n = counts n 0 0 0 0 0 0
+running Backoff n = counts 0 n 0 0 0 0 0
+running Classifying n = counts 0 0 0 n 0 0 0
+running PowerUp n = counts 0 0 0 n n n 0
+running PowerOn n = counts 0 0 0 0 n n n
+running ErrorDelay n = counts 0 0 n 0 0 0 0
+running TestMode n = counts 0 0 0 0 n n 0
+running TestError n = counts 0 0 0 0 0 0 0
 
 -- a port of class 2 in a state, with a control word and counters
 abbrev counting : State → ℕ → Counts → Port
@@ -211,7 +211,7 @@ rows-hold = refl
 
 -- the counters after a move of a port that has seven different ones
 abbrev before : Counts
-before = all 11 22 33 44 55 56 77
+before = counts 11 22 33 44 55 56 77
 
 unfoldable pub counted : Before → Counts
 counted (from s w n r) = step forced (counting s w before) r .port .counts
@@ -225,21 +225,21 @@ counters =
     ∷ (from Detecting force 0 quiet, before)
     ∷ (from PowerOn force 0 limits, before)
     ∷ (from Disabled on 0 quiet, before)
-    ∷ (from Idle on 0 quiet, all 0 22 33 44 55 56 77)
+    ∷ (from Idle on 0 quiet, counts 0 22 33 44 55 56 77)
     ∷ (from Idle force 0 quiet, before)
-    ∷ (from Detecting on 0 quiet, all 12 22 33 44 55 56 77)
-    ∷ (from Detecting on 0 (detects Valid), all 12 22 33 0 55 56 77)
-    ∷ (from Detecting on-b 0 (detects Invalid), all 12 0 33 44 55 56 77)
-    ∷ (from Backoff on 0 quiet, all 11 23 33 44 55 56 77)
-    ∷ (from ErrorDelay on 0 quiet, all 11 22 34 44 55 56 77)
-    ∷ (from Classifying on 0 quiet, all 11 22 33 45 55 56 77)
-    ∷ (from PowerUp on 0 quiet, all 11 22 33 45 0 0 77)
-    ∷ (from PowerUp on 0 limits, all 11 22 33 45 56 0 77)
-    ∷ (from PowerUp on 0 overloads, all 11 22 33 45 0 57 77)
-    ∷ (from PowerUp on 0 settling, all 11 22 33 45 0 0 0)
-    ∷ (from PowerOn on 0 quiet, all 11 22 33 44 0 0 0)
-    ∷ (from PowerOn on 0 unloaded, all 11 22 33 44 0 0 78)
-    ∷ (from TestMode force 0 does-both, all 11 22 33 44 56 57 77)
+    ∷ (from Detecting on 0 quiet, counts 12 22 33 44 55 56 77)
+    ∷ (from Detecting on 0 (detects Valid), counts 12 22 33 0 55 56 77)
+    ∷ (from Detecting on-b 0 (detects Invalid), counts 12 0 33 44 55 56 77)
+    ∷ (from Backoff on 0 quiet, counts 11 23 33 44 55 56 77)
+    ∷ (from ErrorDelay on 0 quiet, counts 11 22 34 44 55 56 77)
+    ∷ (from Classifying on 0 quiet, counts 11 22 33 45 55 56 77)
+    ∷ (from PowerUp on 0 quiet, counts 11 22 33 45 0 0 77)
+    ∷ (from PowerUp on 0 limits, counts 11 22 33 45 56 0 77)
+    ∷ (from PowerUp on 0 overloads, counts 11 22 33 45 0 57 77)
+    ∷ (from PowerUp on 0 settling, counts 11 22 33 45 0 0 0)
+    ∷ (from PowerOn on 0 quiet, counts 11 22 33 44 0 0 0)
+    ∷ (from PowerOn on 0 unloaded, counts 11 22 33 44 0 0 78)
+    ∷ (from TestMode force 0 does-both, counts 11 22 33 44 56 57 77)
     ∷ (from TestError force 0 quiet, before)
     ∷ []
 
@@ -339,6 +339,6 @@ asker s w = record { port = counting s w before; latched = noLatches; asks = tru
 
 pub entries-hold :
     settled 3 true (asker Classifying on) .counts ∷ settled 3 true (asker Idle force) .counts ∷ settled 3 false (asker Classifying on) .counts ∷ []
-    ≡ all 11 22 33 44 0 0 77 ∷ all 11 22 33 44 0 0 77 ∷ before ∷ []
+    ≡ counts 11 22 33 44 0 0 77 ∷ counts 11 22 33 44 0 0 77 ∷ before ∷ []
 unfolding settled granted shed enterIdle enterPowerUp enterTestMode
 entries-hold = refl

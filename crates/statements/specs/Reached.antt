@@ -10,7 +10,7 @@ use lib.Dec.{leb, ltb, eqb}
 use lib.ListN.{length, getD, set, getD-replicate}
 use borrow.Author.Tests.{ltb-true, leb-true, le-leb, lt-ltb}
 use Rattle.lists.specs.Places.{getD-tabulate}
-use Rattle.lists.specs.Table.{and-left, and-right}
+use Rattle.lists.specs.Tests.{and-left, and-right, choice-on}
 use Rattle.power.specs.Power.{forced, tenths, highestSupply, atMost, fits, sumOf, supplyOf}
 use Rattle.power.specs.declared.Power.{Power}
 use Rattle.power.specs.declared.Supply.{Supply}
@@ -37,11 +37,6 @@ use Rattle.table.specs.declared.form.Told.{Told}
 use Rattle.statements.specs.History.{Call, control, status, requested as asked, ticked, after, reached, accepted, isIdle, Shown, nothing, seen, adds, shown}
 use Rattle.statements.specs.Shows.{Needs, idle-needs, tick-needs, tick-needs-idle}
 
--- a choice, with what the test says on each side
-choiceOn : {X : Type 0} (P : X → Type 0) (t : Bool) (a b : X) → (t ≡ true → P a) → (t ≡ false → P b) → P (cond t a b)
-choiceOn P true a b p q = p refl
-choiceOn P false a b p q = q refl
-
 -- a call that leaves count and states as they were, and the table well-made
 record Keeps (t u : Table) : Type 0 where
   count : u .count ≡ t .count
@@ -66,11 +61,11 @@ changed p q t e w = record { count = refl; well = w; states = part-kept (λ (x :
 control-keeps : (t : Table) (p w : ℕ) → Keeps t (writeControl t p w .table)
 unfolding writeControl controlled refuse done withControl
 control-keeps t p w =
-    choiceOn (λ (r : Told). Keeps t (r .table)) (wellMade t) _ _
-    (λ m. choiceOn (λ (r : Told). Keeps t (r .table)) (ltb p (t .count)) _ _
-    (λ l. choiceOn (λ (r : Told). Keeps t (r .table)) (refused w) _ _
+    choice-on (λ (r : Told). Keeps t (r .table)) (wellMade t) _ _
+    (λ m. choice-on (λ (r : Told). Keeps t (r .table)) (ltb p (t .count)) _ _
+    (λ l. choice-on (λ (r : Told). Keeps t (r .table)) (refused w) _ _
     (λ e. same t)
-    (λ e. choiceOn (λ (r : Told). Keeps t (r .table)) (inDisabled (portAt t p .state) || sameAlternative (portAt t p .control) w) _ _
+    (λ e. choice-on (λ (r : Told). Keeps t (r .table)) (inDisabled (portAt t p .state) || sameAlternative (portAt t p .control) w) _ _
     (λ g. changed p (withControl w (portAt t p)) t refl (λ v. controlled-well p w t v (ltb-true p (t .count) l) e))
     (λ g. same t)))
     (λ l. same t))
@@ -79,8 +74,8 @@ control-keeps t p w =
 status-keeps : (t : Table) (p : ℕ) → Keeps t (readStatus t p .table)
 unfolding readStatus statusAt refuseStatus tells unlatched
 status-keeps t p =
-    choiceOn (λ (r : StatusRead). Keeps t (r .table)) (wellMade t) _ _
-    (λ m. choiceOn (λ (r : StatusRead). Keeps t (r .table)) (ltb p (t .count)) _ _
+    choice-on (λ (r : StatusRead). Keeps t (r .table)) (wellMade t) _ _
+    (λ m. choice-on (λ (r : StatusRead). Keeps t (r .table)) (ltb p (t .count)) _ _
     (λ l. changed p (unlatched (portAt t p)) t refl (λ v. unlatched-well p t v (ltb-true p (t .count) l)))
     (λ l. same t))
     (λ m. same t)
@@ -88,12 +83,12 @@ status-keeps t p =
 request-keeps : (t : Table) (p v : ℕ) → Keeps t (request t p v .table)
 unfolding request requested granting refuse done demanding levelOf
 request-keeps t p v =
-    choiceOn (λ (r : Told). Keeps t (r .table)) (wellMade t) _ _
-    (λ m. choiceOn (λ (r : Told). Keeps t (r .table)) (ltb p (t .count)) _ _
-    (λ l. choiceOn (λ (r : Told). Keeps t (r .table)) (leb 1 v && leb v 255) _ _
-    (λ a. choiceOn (λ (r : Told). Keeps t (r .table)) (inPowerOn (portAt t p .state)) _ _
-    (λ b. choiceOn (λ (r : Told). Keeps t (r .table)) (atMost (levelOf v) (budgetOf (portAt t p .class))) _ _
-    (λ c. choiceOn (λ (r : Told). Keeps t (r .table)) (atMost (levelOf v) (portAt t p .demand) || fits (sumOf (closedSum (withPort p (demanding (levelOf v) (portAt t p)) t))) (t .supply)) _ _
+    choice-on (λ (r : Told). Keeps t (r .table)) (wellMade t) _ _
+    (λ m. choice-on (λ (r : Told). Keeps t (r .table)) (ltb p (t .count)) _ _
+    (λ l. choice-on (λ (r : Told). Keeps t (r .table)) (leb 1 v && leb v 255) _ _
+    (λ a. choice-on (λ (r : Told). Keeps t (r .table)) (inPowerOn (portAt t p .state)) _ _
+    (λ b. choice-on (λ (r : Told). Keeps t (r .table)) (atMost (levelOf v) (budgetOf (portAt t p .class))) _ _
+    (λ c. choice-on (λ (r : Told). Keeps t (r .table)) (atMost (levelOf v) (portAt t p .demand) || fits (sumOf (closedSum (withPort p (demanding (levelOf v) (portAt t p)) t))) (t .supply)) _ _
     (λ g. changed p (demanding (levelOf v) (portAt t p)) t refl (λ w. demanding-well (levelOf v) p t w (ltb-true p (t .count) l) (budget-is-demand _)))
     (λ g. same t))
     (λ c. same t))
@@ -123,8 +118,8 @@ stopped k t = record { answer = refl; table = refl }
 pub tick-told : (t : Table) (block : List ℕ) (figure : ℕ) → Stopped t (tick t block figure) ⊎ Ran t block figure (tick t block figure)
 unfolding tick tickWith supplyOf answered
 tick-told t block figure =
-    choiceOn Told′ (wellMade t) _ _
-    (λ m. choiceOn Told′ (eqb (length block) (14 * t .count)) _ _
+    choice-on Told′ (wellMade t) _ _
+    (λ m. choice-on Told′ (eqb (length block) (14 * t .count)) _ _
     (λ l. figures (leb figure 60000) refl m)
     (λ l. inl (stopped 1 t)))
     (λ m. inl (stopped 13 t))
@@ -134,7 +129,7 @@ tick-told t block figure =
 
     figures : (b : Bool) → leb figure 60000 ≡ b → wellMade t ≡ true → Told′ (tickWith (cond b (Is (tenths figure)) TooLarge) t block)
     figures true e m =
-        choiceOn Told′ (flagsTaken t block) (answered (tableAfter t block (tenths figure))) (refuseTick 3 t)
+        choice-on Told′ (flagsTaken t block) (answered (tableAfter t block (tenths figure))) (refuseTick 3 t)
         (λ f. inr (record { answer = refl; whole = refl; table = refl; well = m; figure-in-range = leb-true figure 60000 e }))
         (λ f. inl (stopped 3 t))
     figures false e m = inl (stopped 4 t)
@@ -178,7 +173,7 @@ module _ (t : Table) (m : wellMade t ≡ true) (p : ℕ) (x : Shown) where
       rw (r .table)
       (rw (port-after-at t block (tenths figure) p (omega (arith, well-count t m)))
       (simp (lt-ltb p (t .count) l)
-      (choiceOn
+      (choice-on
       (λ (z : Shown). Needs (settled (rankAt t block p) (keptAt t block (tenths figure) p) (step forced (portAt t p) (digest (sampleAt block (14 * p)))) .state) z)
       (isIdle (portAt t p .state)) x (seen (sampleAt block (14 * p)) x)
       (λ e. tick-needs-idle (sampleAt block (14 * p)) (rankAt t block p) (keptAt t block (tenths figure) p) (portAt t p) x e n)
@@ -222,7 +217,7 @@ reached-needs n a b [] p l =
     let k : p < n = subst (λ (m : ℕ). p < m) (ap (λ (t : Table). t .count) e ∙ cold-count n) l in
     subst (λ (t : Table). Needs (portAt t p .state) nothing) (sym e) (cold-needs n b p k)
 reached-needs n a b (c ∷ h) p l =
-    choiceOn (λ (x : Shown). Needs (portAt (after (reached n h) c) p .state) x) (isIdle (portAt (after (reached n h) c) p .state)) nothing _
+    choice-on (λ (x : Shown). Needs (portAt (after (reached n h) c) p .state) x) (isIdle (portAt (after (reached n h) c) p .state)) nothing _
     (λ e. idle-needs (portAt (after (reached n h) c) p .state) e)
     (λ e.
     let k : p < reached n h .count = subst (λ (m : ℕ). p < m) (call-count (reached n h) c) l in

@@ -9,7 +9,7 @@ use native.Mathlib.Nat.{le-refl, le-trans, le-of-eq}
 use native.Mathlib.Omega.{arith}
 use lib.Dec.{leb, ltb}
 use borrow.Author.Tests.{lt-ltb, ltb-true}
-use Rattle.lists.specs.Table.{and-left, and-right}
+use Rattle.lists.specs.Tests.{and-left, and-right, choice}
 use Rattle.lists.specs.Total.{total, total-mono, total-fewer}
 use Rattle.power.specs.Power.{forced}
 use Rattle.power.specs.declared.Power.{Power}
@@ -28,7 +28,7 @@ use Rattle.table.specs.Laws.{count-after, well-count}
 use Rattle.table.specs.Tick.{movedAt, rankAt, claimAt, keptAt, portAfter, tableAfter, closedAt}
 use Rattle.table.specs.WellMade.{wellMade}
 use Rattle.table.specs.declared.form.Table.{Table}
-use Rattle.statements.specs.Diagram.{both, open-stays, shed-open, granted-demand, draws-at-most, draws-open, no-claim-open}
+use Rattle.statements.specs.Diagram.{open-stays, shed-open, granted-demand, draws-at-most, draws-open, no-claim-open}
 
 -- a port that is closed with its claim kept or shed is closed with it kept
 settled-mono : (r : ℕ) (k k′ : Bool) (m : Moved) → (k ≡ true → k′ ≡ true) → closed (settled r k m .state) ≡ true → closed (settled r k′ m .state) ≡ true
@@ -54,7 +54,7 @@ settled-draws r k m h = go (leb 6 r) k refl
     go : (t k : Bool) → leb 6 r ≡ t → draws (cond t (m .port) (cond k (cond (m .asks) (granted (m .port .state) (m .port)) (m .port)) (shed (m .port) .port))) ≤ cond k d 0
     go true k e = omega (arith, draws-open (m .port) (h e))
     go false true e =
-        both (λ (x : Port). draws x ≤ d) (m .asks) (granted (m .port .state) (m .port)) (m .port)
+        choice (λ (x : Port). draws x ≤ d) (m .asks) (granted (m .port .state) (m .port)) (m .port)
         (le-trans (draws-at-most (granted (m .port .state) (m .port))) (le-of-eq (ap (λ (x : Power). x .0) (granted-demand (m .port .state) (m .port)))))
         (draws-at-most (m .port))
     go false false e = le-of-eq (draws-open (shed (m .port) .port) (shed-open (m .port)))

@@ -6,6 +6,7 @@ use mathlib.Core.Path.{_≡_, refl, sym, _∙_, ap, subst}
 use mathlib.Core.Bool.{Bool, true, false, cond, not, _&&_, false≢true}
 use lib.Dec.{leb}
 use Rattle.lists.specs.Bits.{bit}
+use Rattle.lists.specs.Tests.{choice}
 use Rattle.power.specs.Power.{forced}
 use Rattle.power.specs.declared.Power.{Power}
 use Rattle.reading.specs.Class.{classOfTwo}
@@ -32,7 +33,6 @@ use Rattle.port.specs.declared.form.Reading.{Reading}
 use Rattle.port.specs.declared.form.State.{State}
 use Rattle.port.specs.declared.form.State.the-variants.{Disabled, Idle, Detecting, Backoff, Classifying, PowerUp, PowerOn, ErrorDelay, TestMode, TestError}
 use Rattle.table.specs.Digest.{detectionOf, classingOf, digest}
-use Rattle.statements.specs.Diagram.{both as choice}
 use Rattle.statements.specs.History.{Shown, nothing, signature, both, isValid, isClass, isIdle, showsSignature, givesClass, seen}
 
 -- what a port in a state must have shown

@@ -10,6 +10,7 @@ use mathlib.Core.Logic.{⊎-elim}
 use native.Mathlib.Omega.{arith}
 use lib.Dec.{leb, ltb, eqb}
 use lib.ListN.{length}
+use Rattle.lists.specs.Tests.{choice}
 use Rattle.power.specs.Power.{tenths, atMost, fits, sumOf, supplyOf}
 use Rattle.power.specs.declared.Supply.the-variants.{Is, TooLarge}
 use Rattle.reading.specs.Class.{budgetOf}
@@ -40,7 +41,6 @@ use Rattle.tlv.specs.declared.search.Searched.{Searched}
 use Rattle.tlv.specs.declared.search.Searched.the-variants.{Is as Found, Refused as NotFound}
 use Rattle.tlv.specs.declared.write.Written.{Written}
 use Rattle.tlv.specs.declared.write.Written.the-variants.{Is as Wrote, Refused as NotWritten}
-use Rattle.statements.specs.Diagram.{both}
 use Rattle.statements.specs.History.{accepted}
 use Rattle.statements.specs.Reached.{Stopped, Ran, tick-told}
 
@@ -263,22 +263,22 @@ module _ (t : Table) where
   control-same : (p w : ℕ) → Kept (writeControl t p w)
   unfolding writeControl controlled
   control-same p w =
-      both Kept (wellMade t) _ (refuse 13 t)
-      (both Kept (ltb p (t .count)) _ (refuse 2 t)
-      (both Kept (refused w) (refuse 3 t) _ (kept-refused 3)
-      (both Kept (inDisabled (portAt t p .state) || sameAlternative (portAt t p .control) w) (done (withPort p (withControl w (portAt t p)) t)) (refuse 5 t) (kept-done _) (kept-refused 5)))
+      choice Kept (wellMade t) _ (refuse 13 t)
+      (choice Kept (ltb p (t .count)) _ (refuse 2 t)
+      (choice Kept (refused w) (refuse 3 t) _ (kept-refused 3)
+      (choice Kept (inDisabled (portAt t p .state) || sameAlternative (portAt t p .control) w) (done (withPort p (withControl w (portAt t p)) t)) (refuse 5 t) (kept-done _) (kept-refused 5)))
       (kept-refused 2))
       (kept-refused 13)
 
   asked-same : (p v : ℕ) → Kept (request t p v)
   unfolding request requested granting
   asked-same p v =
-      both Kept (wellMade t) _ (refuse 13 t)
-      (both Kept (ltb p (t .count)) _ (refuse 2 t)
-      (both Kept (leb 1 v && leb v 255) _ (refuse 10 t)
-      (both Kept (inPowerOn (portAt t p .state)) _ (refuse 5 t)
-      (both Kept (atMost (levelOf v) (budgetOf (portAt t p .class))) _ (refuse 11 t)
-      (both Kept (atMost (levelOf v) (portAt t p .demand) || fits (sumOf (closedSum (withPort p (demanding (levelOf v) (portAt t p)) t))) (t .supply)) (done (withPort p (demanding (levelOf v) (portAt t p)) t)) (refuse 12 t) (kept-done _) (kept-refused 12))
+      choice Kept (wellMade t) _ (refuse 13 t)
+      (choice Kept (ltb p (t .count)) _ (refuse 2 t)
+      (choice Kept (leb 1 v && leb v 255) _ (refuse 10 t)
+      (choice Kept (inPowerOn (portAt t p .state)) _ (refuse 5 t)
+      (choice Kept (atMost (levelOf v) (budgetOf (portAt t p .class))) _ (refuse 11 t)
+      (choice Kept (atMost (levelOf v) (portAt t p .demand) || fits (sumOf (closedSum (withPort p (demanding (levelOf v) (portAt t p)) t))) (t .supply)) (done (withPort p (demanding (levelOf v) (portAt t p)) t)) (refuse 12 t) (kept-done _) (kept-refused 12))
       (kept-refused 11)) (kept-refused 5)) (kept-refused 10)) (kept-refused 2)) (kept-refused 13)
 
   KeptStatus : StatusRead → Type 0
@@ -287,8 +287,8 @@ module _ (t : Table) where
   status-same : (p : ℕ) → KeptStatus (readStatus t p)
   unfolding KeptStatus readStatus statusAt tells refuseStatus
   status-same p =
-      both KeptStatus (wellMade t) _ (refuseStatus 13 t)
-      (both KeptStatus (ltb p (t .count)) (statusAt p t) (refuseStatus 2 t) (λ k e. absurd (never k e)) (λ k e. refl))
+      choice KeptStatus (wellMade t) _ (refuseStatus 13 t)
+      (choice KeptStatus (ltb p (t .count)) (statusAt p t) (refuseStatus 2 t) (λ k e. absurd (never k e)) (λ k e. refl))
       (λ k e. refl)
 
 ticked-same : (t : Table) (block : List ℕ) (figure k : ℕ) → tickTold (tick t block figure .answer) ≡ number k → tick t block figure .table ≡ t

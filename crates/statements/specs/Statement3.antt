@@ -9,7 +9,7 @@ use mathlib.Core.List.{List, _∷_}
 use mathlib.Core.Logic.{_⊎_, ⊎-elim}
 use lib.Dec.{ltb}
 use borrow.Author.Tests.{ltb-true}
-use Rattle.lists.specs.Table.{and-left, and-right}
+use Rattle.lists.specs.Tests.{and-left, and-right}
 use Rattle.power.specs.Power.{tenths}
 use Rattle.port.specs.Settle.{closed, inTest}
 use Rattle.port.specs.declared.form.State.{State}

@@ -14,7 +14,8 @@ use Rattle.lists.specs.Bits.{field, above, one, choose}
 use Rattle.lists.specs.Count.{mask, count, ones-mask, count-either}
 use Rattle.lists.specs.Every.{every, every-at, every-of}
 use Rattle.lists.specs.Places.{tabulate, getD-tabulate}
-use Rattle.lists.specs.Table.{and-left, and-right, some}
+use Rattle.lists.specs.Table.{some}
+use Rattle.lists.specs.Tests.{and-left, and-right, fails-right}
 use Rattle.lists.specs.Total.{total-cong}
 use Rattle.power.specs.Power.{atMost, highestSupply, zeroPower}
 use Rattle.power.specs.declared.Power.{Power}
@@ -143,10 +144,6 @@ cold-well n h k =
     })
 
 -- ---- the number of closed ports
-or-false : (x y : Bool) → (x || y) ≡ false → y ≡ false
-or-false true y e = absurd (false≢true (sym e))
-or-false false y e = e
-
 named : (n : ℕ) → (eqb n 1 || eqb n 2) ≡ true → (namesA (choose Neither A B Both n) || namesB (choose Neither A B Both n)) ≡ true
 named n e = go (eqb n 1) refl e
   where
@@ -160,7 +157,7 @@ unfolding refused pairOf
 names-one w e =
     let n = field 2 2 w in
     let both = eqb n 1 || eqb n 2 in
-    named n (not-false both (or-false (eqb (field 0 2 w) 3) (not both) (or-false (above 6 w) (eqb (field 0 2 w) 3 || not both) e)))
+    named n (not-false both (fails-right (eqb (field 0 2 w) 3) (not both) (fails-right (above 6 w) (eqb (field 0 2 w) 3 || not both) e)))
 
 -- and never both
 names-apart : (x : Pair) → (namesA x && namesB x) ≡ false

@@ -7,7 +7,7 @@ use mathlib.Core.List.{List}
 use lib.Dec.{leb}
 use borrow.Author.Tests.{leb-true}
 use Rattle.lists.specs.Every.{every, every-at}
-use Rattle.lists.specs.Table.{and-left, and-right}
+use Rattle.lists.specs.Tests.{and-left, and-right}
 use Rattle.power.specs.Power.{atMost, highestSupply}
 use Rattle.power.specs.declared.Power.{Power}
 use Rattle.port.specs.declared.form.Port.{Port}

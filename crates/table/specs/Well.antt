@@ -6,7 +6,8 @@ use mathlib.Core.Bool.{Bool, true, false, cond, not, _&&_}
 use native.Mathlib.Omega.{arith}
 use lib.Dec.{leb}
 use borrow.Author.Tests.{le-leb, leb-true, not-true}
-use Rattle.lists.specs.Table.{and-left, and-right, all, some}
+use Rattle.lists.specs.Table.{all, some}
+use Rattle.lists.specs.Tests.{and-left, and-right, choice}
 use Rattle.power.specs.Power.{tenths, zeroPower, forced}
 use Rattle.power.specs.declared.Power.{Power}
 use Rattle.reading.specs.Class.{isDemand, budgetOf, classOfTwo}
@@ -49,12 +50,9 @@ pub record Well (p : Port) : Type 0 where
   pub control : refused (p .control) ≡ false
   pub demand : isDemand (p .demand) ≡ true
 
--- a conjunction of tests, taken apart and put together
+-- a conjunction of tests, taken apart
 split : (a b : Bool) → (a && b) ≡ true → (a ≡ true) × (b ≡ true)
 split a b e = (and-left a b e, and-right a b e)
-
-join : (a b : Bool) → a ≡ true → b ≡ true → (a && b) ≡ true
-join a b p q = simp (p, q)
 
 -- the test and the facts say the same
 counts-of : (c : Counts) → wellCounts c ≡ true → WellCounts c
@@ -110,18 +108,13 @@ pub well-test : (p : Port) → Well p → wellPort p ≡ true
 unfolding wellPort
 well-test p w = simp (counts-test (p .counts) (w .counts), le-leb (p .class) 4 (w .class), w .control, w .demand)
 
--- a choice of two that are right is right
-both : {X : Type 0} (P : X → Type 0) (t : Bool) (a b : X) → P a → P b → P (cond t a b)
-both P true a b p q = p
-both P false a b p q = q
-
 up-small : (n : ℕ) → up n ≤ 2000
 unfolding up
 up-small n = omega arith
 
 during-small : (b : Bool) (n : ℕ) → during b n ≤ 2000
 unfolding during
-during-small b n = both (λ (m : ℕ). m ≤ 2000) b (up n) 0 (up-small n) (omega arith)
+during-small b n = choice (λ (m : ℕ). m ≤ 2000) b (up n) 0 (up-small n) (omega arith)
 
 -- new counters, and a new demand
 recounted : (c : Counts) (p : Port) → WellCounts c → Well p → Well (withCounts c p)
@@ -197,7 +190,7 @@ classing-well Failure e = tt
 pub digest-well : (s : Sample) → WellClass (digest s .class)
 unfolding digest
 digest-well s =
-    both WellClass (flagsOf (s .flags) .«class_done») (classingOf (classOfTwo (s .c1) (s .c2))) NotClassed
+    choice WellClass (flagsOf (s .flags) .«class_done») (classingOf (classOfTwo (s .c1) (s .c2))) NotClassed
     (classing-well (classOfTwo (s .c1) (s .c2)) (class-of-two-at-most-four (s .c1) (s .c2)))
     tt
 
@@ -205,16 +198,16 @@ digest-well s =
 idle-rule : (p : Port) → Well p → WellMove (idle forced p)
 unfolding idle
 idle-rule p w =
-    both WellMove (isOn (enableOf (p .control))) _ _
+    choice WellMove (isOn (enableOf (p .control))) _ _
     (detecting-well (withClass 0 p) (record { counts = w .counts; class = omega arith; control = w .control; demand = w .demand }))
-    (both WellMove (isForced (enableOf (p .control))) _ _ (record { counts = w .counts; class = w .class; control = w .control; demand = forced-demand }) w)
+    (choice WellMove (isForced (enableOf (p .control))) _ _ (record { counts = w .counts; class = w .class; control = w .control; demand = forced-demand }) w)
 
 detected-rule : (d : Detection) (q : Port) → Well q → WellMove (detected d q)
 unfolding detected
 detected-rule NotDone q w = w
 detected-rule Valid q w = let v = classifying-well q w in record { counts = v .counts; class = v .class; control = v .control; demand = v .demand }
 detected-rule Invalid q w =
-    let v : Well (cond (isB (pairOf (q .control))) (enterBackoff q) (enterIdle q)) = both Well (isB (pairOf (q .control))) (enterBackoff q) (enterIdle q) (backoff-well q w) (idle-well q w) in
+    let v : Well (cond (isB (pairOf (q .control))) (enterBackoff q) (enterIdle q)) = choice Well (isB (pairOf (q .control))) (enterBackoff q) (enterIdle q) (backoff-well q w) (idle-well q w) in
     record { counts = v .counts; class = v .class; control = v .control; demand = v .demand }
 detected-rule Open q w = let v = idle-well q w in record { counts = v .counts; class = v .class; control = v .control; demand = v .demand }
 
@@ -223,21 +216,21 @@ unfolding detecting
 detecting-rule p r w =
     let q = withCounts (detectionAt (up (p .counts .detection)) (p .counts)) p in
     let v : Well q = recounted (q .counts) p (let x = w .counts in omega (arith, up-small (p .counts .detection))) w in
-    both WellMove (leb 500 (q .counts .detection)) _ _ (idle-well q v) (detected-rule (r .detection) q v)
+    choice WellMove (leb 500 (q .counts .detection)) _ _ (idle-well q v) (detected-rule (r .detection) q v)
 
 backoff-rule : (p : Port) → Well p → WellMove (backoff p)
 unfolding backoff
 backoff-rule p w =
     let q = withCounts (backoffAt (up (p .counts .backoff)) (p .counts)) p in
     let v : Well q = recounted (q .counts) p (let x = w .counts in omega (arith, up-small (p .counts .backoff))) w in
-    both Well (leb 2000 (q .counts .backoff)) (enterIdle q) q (idle-well q v) v
+    choice Well (leb 2000 (q .counts .backoff)) (enterIdle q) q (idle-well q v) v
 
 error-delay-rule : (p : Port) → Well p → WellMove (errorDelay p)
 unfolding errorDelay
 error-delay-rule p w =
     let q = withCounts (errorDelayAt (up (p .counts .«error_delay»)) (p .counts)) p in
     let v : Well q = recounted (q .counts) p (let x = w .counts in omega (arith, up-small (p .counts .«error_delay»))) w in
-    both Well (leb 750 (q .counts .«error_delay»)) (enterIdle q) q (idle-well q v) v
+    choice Well (leb 750 (q .counts .«error_delay»)) (enterIdle q) q (idle-well q v) v
 
 classed-rule : (k : Classing) (q : Port) → WellClass k → Well q → WellMove (classed k q)
 unfolding classed
@@ -250,14 +243,14 @@ unfolding classifying
 classifying-rule p r g w =
     let q = withCounts (powerOnAt (up (p .counts .«power_on»)) (p .counts)) p in
     let v : Well q = recounted (q .counts) p (let x = w .counts in omega (arith, up-small (p .counts .«power_on»))) w in
-    both WellMove (leb 400 (q .counts .«power_on»)) _ _ (idle-well q v) (classed-rule (r .class) q g v)
+    choice WellMove (leb 400 (q .counts .«power_on»)) _ _ (idle-well q v) (classed-rule (r .class) q g v)
 
 watched-rule : (q fault : Port) (sound : Moved) → Well fault → WellMove sound → WellMove (watched q fault sound)
 unfolding watched
 watched-rule q fault sound w v =
     let f : Well fault = w in
-    both WellMove (leb 60 (q .counts .limiting)) _ _ (record { counts = f .counts; class = f .class; control = f .control; demand = f .demand })
-    (both WellMove (leb 60 (q .counts .overload)) _ _ (record { counts = f .counts; class = f .class; control = f .control; demand = f .demand }) v)
+    choice WellMove (leb 60 (q .counts .limiting)) _ _ (record { counts = f .counts; class = f .class; control = f .control; demand = f .demand })
+    (choice WellMove (leb 60 (q .counts .overload)) _ _ (record { counts = f .counts; class = f .class; control = f .control; demand = f .demand }) v)
 
 power-up-rule : (p : Port) (r : Reading) → Well p → WellMove (powerUp p r)
 unfolding powerUp risen
@@ -266,7 +259,7 @@ power-up-rule p r w =
     let x = stressed-well r (p .counts) (w .counts) in
     let v : Well q = recounted (q .counts) p (omega (arith, up-small (p .counts .«power_on»))) w in
     watched-rule q (enterErrorDelay q) _ (error-delay-well q v)
-    (both Well (leb 400 (q .counts .«power_on»)) (enterIdle q) _ (idle-well q v) (both Well (r .settled) (enterPowerOn q) q (power-on-well q v) v))
+    (choice Well (leb 400 (q .counts .«power_on»)) (enterIdle q) _ (idle-well q v) (choice Well (r .settled) (enterPowerOn q) q (power-on-well q v) v))
 
 power-on-rule : (p : Port) (r : Reading) → Well p → WellMove (powerOn p r)
 unfolding powerOn
@@ -276,18 +269,18 @@ power-on-rule p r w =
     let v : Well q = recounted (q .counts) p (omega (arith, during-small (not (r .load)) (p .counts .«no_load»))) w in
     let i = idle-well q v in
     watched-rule q (enterErrorDelay q) _ (error-delay-well q v)
-    (both WellMove (leb 320 (q .counts .«no_load»)) _ _ (record { counts = i .counts; class = i .class; control = i .control; demand = i .demand }) v)
+    (choice WellMove (leb 320 (q .counts .«no_load»)) _ _ (record { counts = i .counts; class = i .class; control = i .control; demand = i .demand }) v)
 
 test-mode-rule : (p : Port) (r : Reading) → Well p → WellMove (testMode p r)
 unfolding testMode
 test-mode-rule p r w =
     let q = withCounts (stressed r (p .counts)) p in
     let v : Well q = recounted (q .counts) p (stressed-well r (p .counts) (w .counts)) w in
-    both WellMove (isForced (enableOf (p .control))) _ _ (watched-rule q (enterTestError q) _ (test-error-well q v) v) (idle-well q v)
+    choice WellMove (isForced (enableOf (p .control))) _ _ (watched-rule q (enterTestError q) _ (test-error-well q v) v) (idle-well q v)
 
 test-error-rule : (p : Port) → Well p → WellMove (testError p)
 unfolding testError
-test-error-rule p w = both Well (isForced (enableOf (p .control))) p (enterIdle p) w (idle-well p w)
+test-error-rule p w = choice Well (isForced (enableOf (p .control))) p (enterIdle p) w (idle-well p w)
 
 state-rule : (s : State) (p : Port) (r : Reading) → WellClass (r .class) → Well p → WellMove (byState s forced p r)
 unfolding byState
@@ -306,8 +299,8 @@ state-rule TestError p r g w = test-error-rule p w
 pub step-well : (p : Port) (r : Reading) → WellClass (r .class) → Well p → Well (step forced p r .port)
 unfolding step
 step-well p r g w =
-    both WellMove (isOff (enableOf (p .control))) _ _ (disabled-well p w)
-    (both WellMove (isForced (enableOf (p .control)) && givesWay (p .state)) _ _ (idle-well p w) (state-rule (p .state) p r g w))
+    choice WellMove (isOff (enableOf (p .control))) _ _ (disabled-well p w)
+    (choice WellMove (isForced (enableOf (p .control)) && givesWay (p .state)) _ _ (idle-well p w) (state-rule (p .state) p r g w))
 
 granted-well : (s : State) (p : Port) → Well p → Well (granted s p)
 unfolding granted
@@ -325,12 +318,12 @@ granted-well TestError p w = w
 shed-well : (p : Port) → Well p → WellMove (shed p)
 unfolding shed
 shed-well p w =
-    let v : Well (cond (inTest (p .state)) (enterTestError p) (enterIdle p)) = both Well (inTest (p .state)) (enterTestError p) (enterIdle p) (test-error-well p w) (idle-well p w) in
+    let v : Well (cond (inTest (p .state)) (enterTestError p) (enterIdle p)) = choice Well (inTest (p .state)) (enterTestError p) (enterIdle p) (test-error-well p w) (idle-well p w) in
     record { counts = v .counts; class = v .class; control = v .control; demand = v .demand }
 
 -- and so does settling
 pub settled-well : (r : ℕ) (kept : Bool) (m : Moved) → Well (m .port) → Well (settled r kept m)
 unfolding settled
 settled-well r kept m w =
-    both Well (leb 6 r) (m .port) _ w
-    (both Well kept _ _ (both Well (m .asks) (granted (m .port .state) (m .port)) (m .port) (granted-well (m .port .state) (m .port) w) w) (shed-well (m .port) w))
+    choice Well (leb 6 r) (m .port) _ w
+    (choice Well kept _ _ (choice Well (m .asks) (granted (m .port .state) (m .port)) (m .port) (granted-well (m .port .state) (m .port) w) w) (shed-well (m .port) w))

@@ -11,7 +11,8 @@ use lib.Dec.{eqb, leb}
 use lib.ListN.{length, getD, drop}
 use borrow.Author.Tests.{eqb-true, eq-eqb, ne-eqb, ltb-true, le-ltb}
 use Rattle.lists.specs.Bits.{field}
-use Rattle.lists.specs.Table.{all, entry-or, and-left, and-right}
+use Rattle.lists.specs.Table.{all, entry-or}
+use Rattle.lists.specs.Tests.{and-left, and-right}
 use Rattle.tlv.specs.Fields.{badValues}
 use Rattle.tlv.specs.Header.{wordAt, typeAt, lengthAt, fixedAt, isPower}
 use Rattle.tlv.specs.Laws.{isByte, ReadRewrites}

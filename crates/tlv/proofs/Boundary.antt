@@ -10,7 +10,7 @@ use lib.Dec.{eqb, ltb}
 use lib.ListN.{length, getD, take, drop, length-drop}
 use lib.Seq.{getD-take, getD-drop, length-take-le}
 use borrow.Author.Tests.{leb-true}
-use Rattle.lists.specs.Table.{and-left, and-right}
+use Rattle.lists.specs.Tests.{and-left, and-right}
 use Rattle.tlv.specs.Header.{wordAt, typeAt, lengthAt, sizeAt, fixedAt, isPower}
 use Rattle.tlv.specs.Laws.{Boundary, start, next, PowerAt, OnePower, FoundPower, TakenPower}
 use Rattle.tlv.specs.Search.{isCut, powers, theOne, answerTo, searchOf}

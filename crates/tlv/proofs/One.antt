@@ -9,13 +9,9 @@ use native.Mathlib.Omega.{arith}
 use lib.Dec.{eqb}
 use lib.ListN.{length}
 use borrow.Author.Tests.{eqb-true}
-use Rattle.lists.specs.Table.{and-left, and-right}
+use Rattle.lists.specs.Tests.{and-left, and-right, or-either}
 use Rattle.tlv.specs.Header.{lengthAt, sizeAt, isPower}
 use Rattle.tlv.specs.Read.{exactlyOne}
-
-either : (a b : Bool) → (a || b) ≡ true → (a ≡ true) ⊎ (b ≡ true)
-either true b e = inl refl
-either false b e = inr e
 
 module _ (b : List ℕ) (one : exactlyOne b ≡ true) where
   -- nothing is left over
@@ -31,7 +27,7 @@ module _ (b : List ℕ) (one : exactlyOne b ≡ true) where
   unfolding exactlyOne sizeAt
   lengths =
       ⊎-elim (λ e. inl (eqb-true _ 7 e)) (λ e. inr (eqb-true _ 12 e))
-      (either _ _ (and-right (isPower b 0) _ (and-right (eqb (length b) (2 + lengthAt b 0)) _ one)))
+      (or-either _ _ (and-right (isPower b 0) _ (and-right (eqb (length b) (2 + lengthAt b 0)) _ one)))
 
   -- both forms have the three octets
   pub three : 8 < length b

@@ -6,7 +6,7 @@ use mathlib.Core.Bool.{Bool, true, false, _||_, not, false≢true}
 use native.Mathlib.Omega.{arith}
 use lib.Dec.{eqb, leb}
 use borrow.Author.Tests.{lt-leb, leb-false, eq-eqb}
-use Rattle.lists.specs.Bits.{field, bit, above, one, choose}
+use Rattle.lists.specs.Bits.{field, bit, above, one, one-small, one-says, choose}
 use Rattle.words.specs.Control.{enableCode, pairCode, priorityCode, enableOf, pairOf, priorityOf, controlOf, wordOf, refused}
 use Rattle.words.specs.Status.{conditionCode, statusWord}
 use Rattle.words.specs.declared.control.Enable.{Enable}
@@ -122,14 +122,6 @@ condition-small Delivering = omega arith
 condition-small Testing = omega arith
 condition-small Faulty = omega arith
 
-one-small : (b : Bool) → one b < 2
-one-small true = omega arith
-one-small false = omega arith
-
-flag : (b : Bool) (n : ℕ) → n ≡ one b → eqb n 1 ≡ b
-flag true n e = rw e
-flag false n e = rw e
-
 -- a status word shows each latch, the class and the condition, and nothing else
 pub record Shows (l : Latches) (class : ℕ) (c : Condition) (word : ℕ) : Type 0 where
   pub high : above 13 word ≡ false
@@ -156,12 +148,12 @@ status-shows l k c h =
     let w = statusWord l k c in
     record {
       high = lt-leb 8192 w (omega arith);
-      denied = flag (l .denied) (w / 4096 % 2) (omega arith);
-      valid = flag (l .valid) (w / 2048 % 2) (omega arith);
-      invalid = flag (l .invalid) (w / 1024 % 2) (omega arith);
-      short = flag (l .short) (w / 512 % 2) (omega arith);
-      overload = flag (l .overload) (w / 256 % 2) (omega arith);
-      absent = flag (l .absent) (w / 128 % 2) (omega arith);
+      denied = one-says (l .denied) (w / 4096 % 2) (omega arith);
+      valid = one-says (l .valid) (w / 2048 % 2) (omega arith);
+      invalid = one-says (l .invalid) (w / 1024 % 2) (omega arith);
+      short = one-says (l .short) (w / 512 % 2) (omega arith);
+      overload = one-says (l .overload) (w / 256 % 2) (omega arith);
+      absent = one-says (l .absent) (w / 128 % 2) (omega arith);
       class-field = omega arith;
       condition = omega arith;
       lowest = eq-eqb (w / 1 % 2) 1 (omega arith);

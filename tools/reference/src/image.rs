@@ -1,6 +1,6 @@
 //! The table image, big-endian: "count (2), supply (4), then 48 ports of 21
 //! bytes: state (1), control (2), class (1), demand (2), latches (1), then seven
-//! counters of 2 bytes" (issue 6).
+//! counters of 2 bytes" (docs/CONSOLE.md).
 
 use crate::port::{Port, STATES};
 use crate::table::{Table, PLACES};

@@ -1,4 +1,4 @@
-//! The console's line language (issue 6), as rules that another program can
+//! The console's line language (docs/CONSOLE.md), as rules that another program can
 //! follow to the letter. Everything is bytes; no character set is assumed.
 //!
 //! 1.  The input is cut at each newline (byte 0A), which belongs to no line.
@@ -15,9 +15,9 @@
 //! 4.  The first word is the command, in lower case to the letter. The number of
 //!     words is exactly the one of the form; more or fewer is a bad line. An
 //!     empty line is a bad line.
-//! 5.  A NUMBER is 1 to 20 bytes, each 0 to 9, of value at most
-//!     18,446,744,073,709,551,615. Leading zeros are allowed and count for the
-//!     20. No sign, no separator. Anything else is a bad line.
+//! 5.  A NUMBER is one or more bytes, each 0 to 9, of value at most
+//!     18,446,744,073,709,551,615. Leading zeros are allowed, however many. No
+//!     sign, no separator. Anything else is a bad line.
 //! 6.  A HEX is `-` alone (no bytes), or an even number, at least two, of the
 //!     bytes 0-9, a-f, A-F (cases may mix), high digit first. Anything else is a
 //!     bad line.
@@ -83,7 +83,7 @@ pub enum Answer {
 
 /// Rule 5.
 fn number(word: &[u8]) -> Option<u64> {
-    if word.is_empty() || word.len() > 20 {
+    if word.is_empty() {
         return None;
     }
     let mut value = 0u64;

@@ -1,5 +1,5 @@
-//! A second program for the port controller, written from document 01 and issue
-//! 6 alone.
+//! A second program for the port controller, written from document 01 and
+//! the console's line language alone.
 //!
 //!     reference answer                      answers the lines of standard input
 //!     reference script SEED LINES [KIND]    makes a script for the console

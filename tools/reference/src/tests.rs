@@ -175,7 +175,7 @@ fn refusals() {
 }
 
 /// One for each way to break a rule.
-const BAD_LINES: [&str; 32] = [
+const BAD_LINES: [&str; 31] = [
     "",
     " ",
     "dump ",
@@ -192,7 +192,6 @@ const BAD_LINES: [&str; 32] = [
     "cold 0x1",
     "cold 1.0",
     "cold 18446744073709551616",
-    "cold 000000000000000000001",
     "search",
     "search 0",
     "search 0g",
@@ -220,7 +219,7 @@ fn bad_lines() {
     assert_eq!(said(&long(8_188)), "bad line");
     assert_eq!(said(&long(8_186)), "bad image");
     assert_eq!(said("table -"), "bad image");
-    assert_eq!(said("cold 00000000000000000001"), "ok");
+    assert_eq!(said("cold 000000000000000000001"), "ok");
     assert_eq!(said("search FE"), "refused 6");
 }
 

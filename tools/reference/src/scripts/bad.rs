@@ -70,14 +70,12 @@ const BAD: [&str; 62] = [
 ];
 
 /// Lines whose numbers are just too large.
-const LARGE: [&str; 30] = [
+const LARGE: [&str; 28] = [
     "cold 18446744073709551616",
     "cold 18446744073709551617",
     "cold 99999999999999999999",
     "cold 100000000000000000000",
-    "cold 000000000000000000001",
     "status 18446744073709551616",
-    "status 000000000000000000000",
     "control 18446744073709551616 5",
     "control 0 18446744073709551621",
     "request 0 18446744073709551617",
@@ -122,8 +120,11 @@ const WORDS: [&str; 14] = [
 ];
 
 /// Good lines that a careless reader takes for bad ones, or the other way round.
-const UNUSUAL: [&str; 19] = [
+const UNUSUAL: [&str; 22] = [
     "cold 00000000000000000003",
+    "cold 000000000000000000001",
+    "status 000000000000000000000",
+    "request 0 00000000000000000000000000000000000000000000000000000000000000000255",
     "cold 18446744073709551615",
     "cold 09223372036854775809",
     "status 00000000000000000000",

@@ -1,0 +1,56 @@
+-- Laws of tests: what their conjunctions and disjunctions say, and what holds of a choice by one.
+-- Assumes nothing.
+use mathlib.Core.Path.{_≡_, refl, sym, _∙_}
+use mathlib.Core.Bool.{Bool, true, false, cond, _&&_, _||_, false≢true, true≢false}
+use mathlib.Core.Logic.{_⊎_, inl, inr}
+
+-- a test is passed or not
+pub passed : (a : Bool) → (a ≡ true) ⊎ (a ≡ false)
+passed true = inl refl
+passed false = inr refl
+
+pub not-both : (a : Bool) → a ≡ true → a ≡ false → ⊥
+not-both a e f = false≢true (sym f ∙ e)
+
+pub and-left : (a b : Bool) → (a && b) ≡ true → a ≡ true
+and-left true b e = refl
+and-left false b e = e
+
+pub and-right : (a b : Bool) → (a && b) ≡ true → b ≡ true
+and-right true b e = e
+and-right false b e = absurd (false≢true e)
+
+pub and-both : (a b : Bool) → a ≡ true → b ≡ true → (a && b) ≡ true
+and-both a b e f = simp (e, f)
+
+-- a disjunction is passed if one of the two is, and only then
+pub or-left : (a b : Bool) → a ≡ true → (a || b) ≡ true
+or-left a b e = simp e
+
+pub or-right : (a b : Bool) → b ≡ true → (a || b) ≡ true
+or-right true b e = refl
+or-right false b e = e
+
+pub or-either : (a b : Bool) → (a || b) ≡ true → (a ≡ true) ⊎ (b ≡ true)
+or-either true b e = inl refl
+or-either false b e = inr e
+
+-- a disjunction that fails fails on both sides
+pub fails-left : (a b : Bool) → (a || b) ≡ false → a ≡ false
+fails-left true b e = absurd (true≢false e)
+fails-left false b e = refl
+
+pub fails-right : (a b : Bool) → (a || b) ≡ false → b ≡ false
+fails-right true b e = absurd (true≢false e)
+fails-right false b e = e
+
+module _ {X : Type 0} (P : X → Type 0) where
+  -- a choice of two that are right is right
+  pub choice : (t : Bool) (a b : X) → P a → P b → P (cond t a b)
+  choice true a b p q = p
+  choice false a b p q = q
+
+  -- and so it is if each is right where the test picks it
+  pub choice-on : (t : Bool) (a b : X) → (t ≡ true → P a) → (t ≡ false → P b) → P (cond t a b)
+  choice-on true a b p q = p refl
+  choice-on false a b p q = q refl
