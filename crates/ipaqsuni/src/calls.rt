@@ -89,7 +89,14 @@ pub extern "C" fn ipaqsuni_request(table: &mut [u8], port: u32, value: u32) -> u
 }
 
 #[no_mangle]
-pub extern "C" fn ipaqsuni_tick(table: &mut [u8], samples: &[u8], supply: u32, a: &mut u64, b: &mut u64, closed: &mut u32) -> u32
+pub extern "C" fn ipaqsuni_tick(
+    table: &mut [u8],
+    samples: &[u8],
+    supply: u32,
+    a: &mut u64,
+    b: &mut u64,
+    closed: &mut u32,
+) -> u32
     ensures { λ r. ⌜ (r ≡ numberOf (tickCall (now (table .entry)) (now (samples .entry)) supply)) × (now (table .exit) ≡ leaves imageTicked (tickCall (now (table .entry)) (now (samples .entry)) supply) (now (table .entry))) × (now (a .exit) ≡ leaves maskATicked (tickCall (now (table .entry)) (now (samples .entry)) supply) (now (a .entry))) × (now (b .exit) ≡ leaves maskBTicked (tickCall (now (table .entry)) (now (samples .entry)) supply) (now (b .entry))) × (now (closed .exit) ≡ leaves closedTicked (tickCall (now (table .entry)) (now (samples .entry)) supply) (now (closed .entry))) ⌝ }
 {
     let lent = load(table);

@@ -129,7 +129,11 @@ fn fields_given(numbers: &[u32; 9]) -> Fields
 }
 
 #[no_mangle]
-pub extern "C" fn ipaqsuni_write_power_tlv(fields: &[u32; 9], room: &mut [u8], written: &mut u64) -> u32
+pub extern "C" fn ipaqsuni_write_power_tlv(
+    fields: &[u32; 9],
+    room: &mut [u8],
+    written: &mut u64,
+) -> u32
     ensures { λ r. ⌜ (r ≡ numberOf (writeCall (now (fields .entry)) (now (room .entry)))) × (now (room .exit) ≡ leaves roomWritten (writeCall (now (fields .entry)) (now (room .entry))) (now (room .entry))) × (now (written .exit) ≡ leaves sizeWritten (writeCall (now (fields .entry)) (now (room .entry))) (now (written .entry))) ⌝ }
 {
     if no_fields(fields) {

@@ -1,52 +1,22 @@
+-- `fields_given` is `fieldsGiven`: three octets that were looked at fit a byte.
+-- Assumes nothing.
+use denote.Ref.{now}
 use borrow.Author.Needs.{needs}
+use Rattle.ipaqsuni.specs.Tlv.{fieldsGiven}
+use Rattle.ipaqsuni.proofs.Numbers.{octets}
 use Rattle.ipaqsuni.proofs.frames.fields_given.Statement.{statement}
 use Rattle.ipaqsuni.proofs.frames.fields_given.Tie as tie
-use Rattle.ipaqsuni.proofs.frames.fields_given.Reads as reads
-use Rattle.ipaqsuni.proofs.frames.fields_given.Lts as lts
-use Rattle.ipaqsuni.proofs.frames.form_given.Reads as form-given-reads
-use Rattle.ipaqsuni.proofs.frames.octet.Reads as octet-reads
-
--- src/frames.rt:115:9
-form-given-requires : tie.Need-form-given-requires
-form-given-requires c κs = search needs
-
--- src/frames.rt:117:24
-element-copy-out-octet : tie.Need-element-copy-out-octet
-element-copy-out-octet c = search needs
-
--- src/frames.rt:117:18
-octet-requires : tie.Need-octet-requires
-octet-requires c κs = ?
-
--- src/frames.rt:118:21
-element-copy-out-octet-2 : tie.Need-element-copy-out-octet-2
-element-copy-out-octet-2 c = search needs
-
--- src/frames.rt:118:15
-octet-requires-2 : tie.Need-octet-requires-2
-octet-requires-2 c κs = ?
-
--- src/frames.rt:119:22
-element-copy-out-octet-3 : tie.Need-element-copy-out-octet-3
-element-copy-out-octet-3 c = search needs
-
--- src/frames.rt:119:16
-octet-requires-3 : tie.Need-octet-requires-3
-octet-requires-3 c κs = ?
-
--- src/frames.rt:111:1
-returns : tie.Need-returns
-returns c = ?
 
 pub fields-given-spec : {M : Type 1} → statement M
+unfolding fieldsGiven
 fields-given-spec =
     tie.close
     (tie.spec
-    form-given-requires
-    element-copy-out-octet
-    octet-requires
-    element-copy-out-octet-2
-    octet-requires-2
-    element-copy-out-octet-3
-    octet-requires-3
-    returns)
+    (λ c κs. search needs)
+    (λ c. search needs)
+    (λ c κs. octets (now (c .before .before .args .numbers)) (c .before .before .pre) .0)
+    (λ c. search needs)
+    (λ c κs. octets (now (c .before .before .before .before .args .numbers)) (c .before .before .before .before .pre) .1)
+    (λ c. search needs)
+    (λ c κs. octets (now (c .before .before .before .before .before .before .args .numbers)) (c .before .before .before .before .before .before .pre) .2)
+    (λ c. simp (c .before .before .before .before .before .before .form-given .ensures, c .before .before .before .before .octet .ensures, c .before .before .octet2 .ensures, c .octet3 .ensures)))

@@ -1,68 +1,38 @@
+-- `ipaqsuni_write_power_tlv` is `writeCall`: the nine numbers are looked at first, and then the writer decides.
+-- Assumes nothing.
+use mathlib.Core.Path.{_≡_, _∙_, sym, ap}
+use mathlib.Core.List.{List}
+use Prim.Native.Nat.{ℕ}
+use denote.Ref.{now}
 use borrow.Author.Needs.{needs}
+use Rattle.ipaqsuni.specs.Tlv.{writeCall}
+use Rattle.ipaqsuni.proofs.Numbers.{not-given, wrote, not-wrote, kept}
 use Rattle.ipaqsuni.proofs.frames.ipaqsuni_write_power_tlv.Statement.{statement}
 use Rattle.ipaqsuni.proofs.frames.ipaqsuni_write_power_tlv.Tie as tie
-use Rattle.ipaqsuni.proofs.frames.ipaqsuni_write_power_tlv.Reads as reads
-use Rattle.ipaqsuni.proofs.frames.ipaqsuni_write_power_tlv.Lts as lts
-use Rattle.ipaqsuni.proofs.frames.fields_given.Reads as fields-given-reads
-use Rattle.ipaqsuni.proofs.frames.no_fields.Reads as no-fields-reads
-use Rattle.tlv.proofs.write.write.Reads as write-reads
-
--- src/frames.rt:128:8
-no-fields-requires : tie.Need-no-fields-requires
-no-fields-requires c κs = search needs
-
--- src/frames.rt:129:9
-returns : tie.Need-returns
-returns c = ?
-
--- src/frames.rt:131:29
-fields-given-requires : tie.Need-fields-given-requires
-fields-given-requires c κs = ?
-
--- src/frames.rt:131:11
-write-requires : tie.Need-write-requires
-write-requires c κs = search needs
-
--- src/frames.rt:132:21
-enum-known-size : tie.Need-enum-known-size
-enum-known-size c = search needs
-
--- src/frames.rt:136:26
-enum-known-number : tie.Need-enum-known-number
-enum-known-number c = search needs
-
--- src/frames.rt:136:37
-cast-result : tie.Need-cast-result
-cast-result c = search needs
-
--- src/frames.rt:124:1
-same-length : tie.Need-same-length
-same-length c = search needs
-
--- src/frames.rt:124:1
-returns-2 : tie.Need-returns-2
-returns-2 c = ?
-
--- src/frames.rt:124:1
-same-length-2 : tie.Need-same-length-2
-same-length-2 c = search needs
-
--- src/frames.rt:124:1
-returns-3 : tie.Need-returns-3
-returns-3 c = ?
 
 pub ipaqsuni-write-power-tlv-spec : {M : Type 1} → statement M
 ipaqsuni-write-power-tlv-spec =
     tie.close
     (tie.spec
-    no-fields-requires
-    returns
-    fields-given-requires
-    write-requires
-    enum-known-size
-    enum-known-number
-    cast-result
-    same-length
-    returns-2
-    same-length-2
-    returns-3)
+    (λ c κs. search needs)
+    (λ c.
+    let e = not-given (now (c .before .before .before .args .fields)) (now (c .before .before .before .args .room)) (sym (c .before .no-fields .ensures) ∙ c .if1 .taken) in
+    (simp e, simp e, simp e))
+    (λ c κs. sym (c .before .no-fields .ensures) ∙ c .if1 .left)
+    (λ c κs. search needs)
+    (λ c. search needs)
+    (λ c. search needs)
+    (λ c. search needs)
+    (λ c. search needs)
+    (λ c.
+    let a = c .before .before .before .before .before .before .before .before .before .before .before .args in
+    let w = c .before .before .before .before .before .write in
+    let e = wrote (now (a .fields)) (now (a .room)) (sym (c .before .before .before .before .before .before .before .before .before .no-fields .ensures) ∙ c .before .before .before .before .before .before .before .before .if1 .left) _ (c .before .before .before .before .before .before .before .fields-given .ensures) _ (sym (w .ensures .0) ∙ c .before .size .given .1) in
+    (simp e, simp e (w .ensures .1), simp e))
+    (λ c. search needs)
+    (λ c.
+    let a = c .before .before .before .before .before .before .before .before .before .before .before .args in
+    let w = c .before .before .before .before .before .write in
+    let told = sym (w .ensures .0) ∙ c .before .number .given .1 in
+    let e = not-wrote (now (a .fields)) (now (a .room)) (sym (c .before .before .before .before .before .before .before .before .before .no-fields .ensures) ∙ c .before .before .before .before .before .before .before .before .if1 .left) _ (c .before .before .before .before .before .before .before .fields-given .ensures) _ told in
+    (simp e, simp e (w .ensures .1 ∙ kept _ _ _ told), simp e)))
