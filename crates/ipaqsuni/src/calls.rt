@@ -13,7 +13,8 @@ ghost use Rattle.ipaqsuni.specs.Calls.{ofTold, coldCall, controlCall, st
 
 fn keep(told: Told, bytes: &mut [u8]) -> u32
     requires { ⌜ stores (now bytes) ≡ true ⌝ }
-    ensures { λ r. ⌜ (r ≡ numberOf (ofTold told)) × (now (bytes .exit) ≡ leaves imageOf (ofTold told) (now (bytes .entry))) ⌝ }
+    ensures { λ r. ⌜ r ≡ numberOf (ofTold told) ⌝ }
+    ensures { λ _. ⌜ now (bytes .exit) ≡ leaves imageOf (ofTold told) (now (bytes .entry)) ⌝ }
 {
     let answer = told.answer;
     match answer {
@@ -28,7 +29,8 @@ fn keep(told: Told, bytes: &mut [u8]) -> u32
 
 #[no_mangle]
 pub extern "C" fn ipaqsuni_cold_start(table: &mut [u8], ports: u32) -> u32
-    ensures { λ r. ⌜ (r ≡ numberOf (coldCall (now (table .entry)) ports)) × (now (table .exit) ≡ leaves imageOf (coldCall (now (table .entry)) ports) (now (table .entry))) ⌝ }
+    ensures { λ r. ⌜ r ≡ numberOf (coldCall (now (table .entry)) ports) ⌝ }
+    ensures { λ _. ⌜ now (table .exit) ≡ leaves imageOf (coldCall (now (table .entry)) ports) (now (table .entry)) ⌝ }
 {
     if table.len() != 1_014 {
         return 13;
@@ -38,7 +40,8 @@ pub extern "C" fn ipaqsuni_cold_start(table: &mut [u8], ports: u32) -> u32
 
 #[no_mangle]
 pub extern "C" fn ipaqsuni_write_control(table: &mut [u8], port: u32, word: u32) -> u32
-    ensures { λ r. ⌜ (r ≡ numberOf (controlCall (now (table .entry)) port word)) × (now (table .exit) ≡ leaves imageOf (controlCall (now (table .entry)) port word) (now (table .entry))) ⌝ }
+    ensures { λ r. ⌜ r ≡ numberOf (controlCall (now (table .entry)) port word) ⌝ }
+    ensures { λ _. ⌜ now (table .exit) ≡ leaves imageOf (controlCall (now (table .entry)) port word) (now (table .entry)) ⌝ }
 {
     let lent = load(table);
     if !lent.ok {
@@ -53,7 +56,9 @@ pub extern "C" fn ipaqsuni_write_control(table: &mut [u8], port: u32, word: u32)
 
 #[no_mangle]
 pub extern "C" fn ipaqsuni_read_status(table: &mut [u8], port: u32, status: &mut u32) -> u32
-    ensures { λ r. ⌜ (r ≡ numberOf (statusCall (now (table .entry)) port)) × (now (table .exit) ≡ leaves imageRead (statusCall (now (table .entry)) port) (now (table .entry))) × (now (status .exit) ≡ leaves wordRead (statusCall (now (table .entry)) port) (now (status .entry))) ⌝ }
+    ensures { λ r. ⌜ r ≡ numberOf (statusCall (now (table .entry)) port) ⌝ }
+    ensures { λ _. ⌜ now (table .exit) ≡ leaves imageRead (statusCall (now (table .entry)) port) (now (table .entry)) ⌝ }
+    ensures { λ _. ⌜ now (status .exit) ≡ leaves wordRead (statusCall (now (table .entry)) port) (now (status .entry)) ⌝ }
 {
     let lent = load(table);
     if !lent.ok {
@@ -75,7 +80,8 @@ pub extern "C" fn ipaqsuni_read_status(table: &mut [u8], port: u32, status: &mut
 
 #[no_mangle]
 pub extern "C" fn ipaqsuni_request(table: &mut [u8], port: u32, value: u32) -> u32
-    ensures { λ r. ⌜ (r ≡ numberOf (requestCall (now (table .entry)) port value)) × (now (table .exit) ≡ leaves imageOf (requestCall (now (table .entry)) port value) (now (table .entry))) ⌝ }
+    ensures { λ r. ⌜ r ≡ numberOf (requestCall (now (table .entry)) port value) ⌝ }
+    ensures { λ _. ⌜ now (table .exit) ≡ leaves imageOf (requestCall (now (table .entry)) port value) (now (table .entry)) ⌝ }
 {
     let lent = load(table);
     if !lent.ok {
@@ -97,7 +103,11 @@ pub extern "C" fn ipaqsuni_tick(
     b: &mut u64,
     closed: &mut u32,
 ) -> u32
-    ensures { λ r. ⌜ (r ≡ numberOf (tickCall (now (table .entry)) (now (samples .entry)) supply)) × (now (table .exit) ≡ leaves imageTicked (tickCall (now (table .entry)) (now (samples .entry)) supply) (now (table .entry))) × (now (a .exit) ≡ leaves maskATicked (tickCall (now (table .entry)) (now (samples .entry)) supply) (now (a .entry))) × (now (b .exit) ≡ leaves maskBTicked (tickCall (now (table .entry)) (now (samples .entry)) supply) (now (b .entry))) × (now (closed .exit) ≡ leaves closedTicked (tickCall (now (table .entry)) (now (samples .entry)) supply) (now (closed .entry))) ⌝ }
+    ensures { λ r. ⌜ r ≡ numberOf (tickCall (now (table .entry)) (now (samples .entry)) supply) ⌝ }
+    ensures { λ _. ⌜ now (table .exit) ≡ leaves imageTicked (tickCall (now (table .entry)) (now (samples .entry)) supply) (now (table .entry)) ⌝ }
+    ensures { λ _. ⌜ now (a .exit) ≡ leaves maskATicked (tickCall (now (table .entry)) (now (samples .entry)) supply) (now (a .entry)) ⌝ }
+    ensures { λ _. ⌜ now (b .exit) ≡ leaves maskBTicked (tickCall (now (table .entry)) (now (samples .entry)) supply) (now (b .entry)) ⌝ }
+    ensures { λ _. ⌜ now (closed .exit) ≡ leaves closedTicked (tickCall (now (table .entry)) (now (samples .entry)) supply) (now (closed .entry)) ⌝ }
 {
     let lent = load(table);
     if !lent.ok {

@@ -13,7 +13,9 @@ ghost use Rattle.ipaqsuni.specs.Tlv.{findCall, offsetFound, sizeFound, r
 
 #[no_mangle]
 pub extern "C" fn ipaqsuni_find_power_tlv(pdu: &[u8], offset: &mut u64, length: &mut u64) -> u32
-    ensures { λ r. ⌜ (r ≡ numberOf (findCall (now (pdu .entry)))) × (now (offset .exit) ≡ leaves offsetFound (findCall (now (pdu .entry))) (now (offset .entry))) × (now (length .exit) ≡ leaves sizeFound (findCall (now (pdu .entry))) (now (length .entry))) ⌝ }
+    ensures { λ r. ⌜ r ≡ numberOf (findCall (now (pdu .entry))) ⌝ }
+    ensures { λ _. ⌜ now (offset .exit) ≡ leaves offsetFound (findCall (now (pdu .entry))) (now (offset .entry)) ⌝ }
+    ensures { λ _. ⌜ now (length .exit) ≡ leaves sizeFound (findCall (now (pdu .entry))) (now (length .entry)) ⌝ }
 {
     match tlv::search::search(pdu) {
         Searched::Is(at, size) => {
@@ -51,7 +53,8 @@ fn numbers_of(fields: Fields) -> [u32; 9]
 
 #[no_mangle]
 pub extern "C" fn ipaqsuni_read_power_tlv(tlv: &[u8], fields: &mut [u32; 9]) -> u32
-    ensures { λ r. ⌜ (r ≡ numberOf (readCall (now (tlv .entry)))) × (now (fields .exit) ≡ leaves numbersOf (readCall (now (tlv .entry))) (now (fields .entry))) ⌝ }
+    ensures { λ r. ⌜ r ≡ numberOf (readCall (now (tlv .entry))) ⌝ }
+    ensures { λ _. ⌜ now (fields .exit) ≡ leaves numbersOf (readCall (now (tlv .entry))) (now (fields .entry)) ⌝ }
 {
     match tlv::read::read(tlv) {
         Taken::Is(taken) => {
@@ -134,7 +137,9 @@ pub extern "C" fn ipaqsuni_write_power_tlv(
     room: &mut [u8],
     written: &mut u64,
 ) -> u32
-    ensures { λ r. ⌜ (r ≡ numberOf (writeCall (now (fields .entry)) (now (room .entry)))) × (now (room .exit) ≡ leaves roomWritten (writeCall (now (fields .entry)) (now (room .entry))) (now (room .entry))) × (now (written .exit) ≡ leaves sizeWritten (writeCall (now (fields .entry)) (now (room .entry))) (now (written .entry))) ⌝ }
+    ensures { λ r. ⌜ r ≡ numberOf (writeCall (now (fields .entry)) (now (room .entry))) ⌝ }
+    ensures { λ _. ⌜ now (room .exit) ≡ leaves roomWritten (writeCall (now (fields .entry)) (now (room .entry))) (now (room .entry)) ⌝ }
+    ensures { λ _. ⌜ now (written .exit) ≡ leaves sizeWritten (writeCall (now (fields .entry)) (now (room .entry))) (now (written .entry)) ⌝ }
 {
     if no_fields(fields) {
         return 3;

@@ -22,7 +22,7 @@ ipaqsuni-read-status-spec =
     let l = c .before .before .load in
     let a = c .before .before .before .before .before .args in
     let e = no-image (now (a .table)) (l .result) (l .ensures) (λ t. ofStatus (readStatus t (a .port))) (not-true _ (c .if1 .taken)) in
-    (simp e, simp e, simp e))
+    (simp e, (simp e, simp e)))
     (λ c κs. search needs)
     (λ c. search needs)
     (λ c κs. search needs)
@@ -37,7 +37,7 @@ ipaqsuni-read-status-spec =
     let told = c .before .before .before .before .before .before .before .before .read-status in
     let e = an-image (now (a .table)) (l .result) (l .ensures) (λ t. ofStatus (readStatus t (a .port))) ok ∙ ap ofStatus (sym (told .ensures)) ∙ ap (worded (told .result .table)) (c .before .before .before .before .before .before .answer .given .1) in
     let image = c .before .before .store .ensures .1 ∙ stored (told .result .table) (now (a .table)) (image-stores (now (a .table)) (l .result) (l .ensures) ok) in
-    (simp e, simp e image, simp e))
+    (simp e, (simp e image, simp e)))
     (λ c. search needs)
     (λ c.
     let l = c .before .before .before .before .before .before .before .load in
@@ -45,4 +45,4 @@ ipaqsuni-read-status-spec =
     let ok = not-false _ (c .before .before .before .before .before .if1 .left) in
     let told = c .before .before .before .read-status in
     let e = an-image (now (a .table)) (l .result) (l .ensures) (λ t. ofStatus (readStatus t (a .port))) ok ∙ ap ofStatus (sym (told .ensures)) ∙ ap (worded (told .result .table)) (c .before .answer2 .given .1) in
-    (simp e, simp e, simp e)))
+    (simp e, (simp e, simp e))))

@@ -17,7 +17,7 @@ ipaqsuni-find-power-tlv-spec =
     (λ c. search needs)
     (λ c.
     let e = ap ofSearch (sym (c .before .before .before .search .ensures) ∙ c .before .at .given .1) in
-    (simp e, simp e, simp e))
+    (simp e, (simp e, simp e)))
     (λ c.
     let e = ap ofSearch (sym (c .before .before .before .search .ensures) ∙ c .before .number .given .1) in
-    (simp e, simp e, simp e)))
+    (simp e, (simp e, simp e))))
