@@ -198,17 +198,17 @@ unfolding findCall searchOf answerTo readCall readOf writeCall writtenOf
 frames =
     record {
       find = λ pdu.
-        by-cond NumberedSearch (ltb 1500 (length pdu)) _ _ (omega arith)
-        (by-cond NumberedSearch (isCut (walkFrom pdu 0)) _ _ (omega arith) (one-numbered pdu (powers pdu (walkFrom pdu 0))));
+          by-cond NumberedSearch (ltb 1500 (length pdu)) _ _ (omega arith)
+          (by-cond NumberedSearch (isCut (walkFrom pdu 0)) _ _ (omega arith) (one-numbered pdu (powers pdu (walkFrom pdu 0))));
       read = λ tlv.
-        by-cond NumberedRead (cut tlv) _ _ (omega arith)
-        (by-cond NumberedRead (not (exactlyOne tlv)) _ _ (omega arith)
-        (by-cond NumberedRead (badValues (formIn tlv)) _ _ (omega arith) tt));
+          by-cond NumberedRead (cut tlv) _ _ (omega arith)
+          (by-cond NumberedRead (not (exactlyOne tlv)) _ _ (omega arith)
+          (by-cond NumberedRead (badValues (formIn tlv)) _ _ (omega arith) tt));
       write = λ n room.
-        let f = fieldsGiven n in
-        let P : Written → Type 0 = λ w. Numbered (ofWrite (roomAfter f room) w) in
-        by-cond Numbered (noFields n) _ _ (omega arith)
-        (by-cond P (badCodes (f .form)) _ _ (omega arith)
-        (by-cond P (badValues (f .form)) _ _ (omega arith)
-        (by-cond P (ltb (length room) (length (bytesOf f))) _ _ (omega arith) tt)));
+          let f = fieldsGiven n in
+          let P : Written → Type 0 = λ w. Numbered (ofWrite (roomAfter f room) w) in
+          by-cond Numbered (noFields n) _ _ (omega arith)
+          (by-cond P (badCodes (f .form)) _ _ (omega arith)
+          (by-cond P (badValues (f .form)) _ _ (omega arith)
+          (by-cond P (ltb (length room) (length (bytesOf f))) _ _ (omega arith) tt)));
     }

@@ -69,8 +69,8 @@ pub extern "C" fn ipaqsuni_read_status(table: &mut [u8], port: u32, status: &mut
     let answer = told.answer;
     match answer {
         Status::Word(word) => {
-            let after = told.table;
-            store(after, table);
+            let read = told.table;
+            store(read, table);
             *status = word as u32;
             0
         }
@@ -118,8 +118,8 @@ pub extern "C" fn ipaqsuni_tick(
     let answer = told.answer;
     match answer {
         Closed::Ports(mask_a, mask_b, number) => {
-            let after = told.table;
-            store(after, table);
+            let ticked = told.table;
+            store(ticked, table);
             *a = mask_a;
             *b = mask_b;
             *closed = number;
