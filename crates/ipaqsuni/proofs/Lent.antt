@@ -1,6 +1,6 @@
 -- What a call on a lent table comes to, by what was read of the table's bytes.
 -- Assumes nothing.
-use mathlib.Core.Path.{_≡_, sym, _∙_, ap}
+use mathlib.Core.Path.{_≡_, refl, sym, _∙_, ap}
 use mathlib.Core.Bool.{Bool, true, false}
 use mathlib.Core.List.{List}
 use Prim.Native.Nat.{ℕ}
@@ -21,7 +21,7 @@ module _ (bytes : List ℕ) (l : Loaded) (e : l ≡ loaded bytes) where
   -- bytes that are an image are room for one
   pub image-stores : l .ok ≡ true → stores bytes ≡ true
   unfolding stores
-  image-stores ok = eq-eqb _ _ (reads-long bytes (sym (ok-reads bytes (reads bytes) (λ _. reads bytes)) ∙ ap (λ (x : Loaded). x .ok) (sym e) ∙ ok))
+  image-stores ok = eq-eqb _ _ (reads-long bytes (sym (ok-reads bytes (reads bytes) refl) ∙ ap (λ (x : Loaded). x .ok) (sym e) ∙ ok))
 
   module _ {X : Type 0} (call : Table → Outcome X) where
     pub no-image : l .ok ≡ false → lent bytes call ≡ refused 13

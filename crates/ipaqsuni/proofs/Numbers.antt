@@ -1,20 +1,19 @@
 -- The nine numbers of a TLV's fields: what was looked at, and what fits.
 -- Assumes nothing.
-use mathlib.Core.Path.{_≡_, refl, sym, _∙_, ap}
+use mathlib.Core.Path.{_≡_, refl, sym}
 use mathlib.Core.Bool.{Bool, true, false, cond, _||_, not}
 use mathlib.Core.List.{List}
 use Prim.Native.Nat.{ℕ, _≤_, _<_, _^_}
 use native.Mathlib.Omega.{arith}
 use lib.Dec.{eqb, ltb}
-use lib.ListN.{length, getD}
+use lib.ListN.{getD}
 use borrow.Author.Tests.{le-ltb, ltb-false}
 use Rattle.lists.specs.Bits.{field}
 use Rattle.tlv.specs.Fields.{outside, badValues}
-use Rattle.tlv.specs.Header.{lengthAt, wordAt}
+use Rattle.tlv.specs.Header.{lengthAt}
 use Rattle.tlv.specs.Read.{cut, exactlyOne, addedIn, formIn, fieldsIn, readOf}
 use Rattle.tlv.specs.Write.{writtenOf, roomAfter}
 use Rattle.tlv.specs.declared.fields.Fields.{Fields}
-use Rattle.tlv.specs.declared.fields.Form.{Form}
 use Rattle.tlv.specs.declared.fields.Form.the-variants.{Short, Long}
 use Rattle.tlv.specs.declared.read.Taken.the-variants.{Is as Took, Refused as NotTaken}
 use Rattle.tlv.specs.declared.write.Written.the-variants.{Is as Wrote, Refused as NotWritten}

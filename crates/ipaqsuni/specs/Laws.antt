@@ -1,14 +1,14 @@
 -- What holds of every call of the C interface: a refusal has a number and writes nothing, and what an accepted call leaves is read back by
 -- the next one as the table that the core gave.
 -- Assumes nothing.
-use mathlib.Core.Path.{_≡_, refl, sym, _∙_, ap}
+use mathlib.Core.Path.{_≡_, refl, _∙_}
 use mathlib.Core.Bool.{Bool, true, false, cond, _&&_, _||_, not}
 use mathlib.Core.List.{List, [], _∷_}
 use Prim.Native.Nat.{ℕ, _+_, _*_, _≤_}
 use native.Mathlib.Omega.{arith}
 use lib.Dec.{eqb, leb, ltb}
 use lib.ListN.{length, length-set, length-replicate}
-use Rattle.lists.specs.Places.{tabulate, length-tabulate}
+use Rattle.lists.specs.Places.{length-tabulate}
 use Rattle.power.specs.Power.{supplyOf, atMost, fits, sumOf}
 use Rattle.power.specs.declared.Power.{Power}
 use Rattle.power.specs.declared.Supply.{Supply}
@@ -37,7 +37,7 @@ use Rattle.tlv.specs.declared.read.Taken.{Taken}
 use Rattle.tlv.specs.declared.search.Searched.{Searched}
 use Rattle.tlv.specs.declared.write.Written.{Written}
 use Rattle.ipaqsuni.specs.Outcome.{Outcome, refused, accepted, numberOf, leaves}
-use Rattle.ipaqsuni.specs.Calls.{WithWord, WithMasks, ofTold, ofStatus, ofTick, lent, coldCall, controlCall, statusCall, requestCall, tickCall}
+use Rattle.ipaqsuni.specs.Calls.{ofTold, ofStatus, ofTick, lent, coldCall, controlCall, statusCall, requestCall, tickCall}
 use Rattle.ipaqsuni.specs.Tlv.{ofSearch, ofRead, ofWrite, findCall, readCall, noFields, fieldsGiven, writeCall}
 
 -- "a refusal writes no byte anywhere": of any call and anything lent to it
@@ -64,6 +64,7 @@ leaves-table table o fair x e before = rw e (reads-back (table x) (rw e at fair)
 pub lent-image : {X : Type 0} (t : Table) → length (t .ports) ≡ 48 → (call : Table → Outcome X) → lent (imageOf t) call ≡ call t
 lent-image t l call = simp (reads-back t l)
 
+-- what holds of both sides holds of either
 by-cond : {A : Type 0} (P : A → Type 0) (b : Bool) (x y : A) → P x → P y → P (cond b x y)
 by-cond P true x y p q = p
 by-cond P false x y p q = q

@@ -2,3 +2,4 @@ pub mod Outcome
 pub mod Calls
 pub mod Tlv
 pub mod Laws
+pub mod Unique

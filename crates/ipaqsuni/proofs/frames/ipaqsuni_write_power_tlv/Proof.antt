@@ -1,11 +1,8 @@
 -- `ipaqsuni_write_power_tlv` is `writeCall`: the nine numbers are looked at first, and then the writer decides.
 -- Assumes nothing.
-use mathlib.Core.Path.{_≡_, _∙_, sym, ap}
-use mathlib.Core.List.{List}
-use Prim.Native.Nat.{ℕ}
+use mathlib.Core.Path.{_∙_, sym}
 use denote.Ref.{now}
 use borrow.Author.Needs.{needs}
-use Rattle.ipaqsuni.specs.Tlv.{writeCall}
 use Rattle.ipaqsuni.proofs.Numbers.{not-given, wrote, not-wrote, kept}
 use Rattle.ipaqsuni.proofs.frames.ipaqsuni_write_power_tlv.Statement.{statement}
 use Rattle.ipaqsuni.proofs.frames.ipaqsuni_write_power_tlv.Tie as tie
