@@ -1,0 +1,86 @@
+-- The nine numbers of a TLV's fields: what was looked at, and what fits.
+-- Assumes nothing.
+use mathlib.Core.Path.{_≡_, refl, sym}
+use mathlib.Core.Bool.{Bool, true, false, cond, _||_, not}
+use mathlib.Core.List.{List}
+use Prim.Native.Nat.{ℕ, _≤_, _<_, _^_}
+use native.Mathlib.Omega.{arith}
+use lib.Dec.{eqb, ltb}
+use lib.ListN.{getD}
+use borrow.Author.Tests.{le-ltb, ltb-false}
+use Rattle.lists.specs.Bits.{field}
+use Rattle.tlv.specs.Fields.{outside, badValues}
+use Rattle.tlv.specs.Header.{lengthAt}
+use Rattle.tlv.specs.Read.{cut, exactlyOne, addedIn, formIn, fieldsIn, readOf}
+use Rattle.tlv.specs.Write.{writtenOf, roomAfter}
+use Rattle.tlv.specs.declared.fields.Fields.{Fields}
+use Rattle.tlv.specs.declared.fields.Form.the-variants.{Short, Long}
+use Rattle.tlv.specs.declared.read.Taken.the-variants.{Is as Took, Refused as NotTaken}
+use Rattle.tlv.specs.declared.write.Written.the-variants.{Is as Wrote, Refused as NotWritten}
+use Rattle.ipaqsuni.specs.Outcome.{refused, accepted}
+use Rattle.ipaqsuni.specs.Tlv.{Narrow, noForm, noFields, fieldsGiven, writeCall}
+
+neither : (a b : Bool) → (a || b) ≡ false → (a ≡ false) × (b ≡ false)
+neither true b e = let z : _≡_ {A = ℕ} 0 1 = cc in absurd (omega arith)
+neither false b e = (refl, e)
+
+-- the three octets of numbers that are fields
+pub octets : (n : List ℕ) → noFields n ≡ false → (getD n 1 0 < 256) × (getD n 2 0 < 256) × (getD n 3 0 < 256)
+unfolding noFields
+octets n e =
+    let h = neither (noForm (getD n 0 0)) _ e .1 in
+    let i = neither (ltb 255 (getD n 1 0)) _ h in
+    let j = neither (ltb 255 (getD n 2 0)) _ (i .1) in
+    let a = ltb-false 255 (getD n 1 0) (i .0) in
+    let b = ltb-false 255 (getD n 2 0) (j .0) in
+    let c = ltb-false 255 (getD n 3 0) (j .1) in
+    (omega arith, omega arith, omega arith)
+
+-- once the form and two octets are looked at, the third decides
+pub third : (n : List ℕ) → noForm (getD n 0 0) ≡ false → getD n 1 0 ≤ 255 → getD n 2 0 ≤ 255 → ltb 255 (getD n 3 0) ≡ noFields n
+unfolding noFields
+third n e h k = simp (e, le-ltb _ _ h, le-ltb _ _ k)
+
+-- only the last of four cases takes a TLV
+last : (a b c : Bool) (x f : Fields) → cond a (NotTaken 6) (cond b (NotTaken 9) (cond c (NotTaken 10) (Took x))) ≡ Took f → (c ≡ false) × (x ≡ f)
+last true b c x f e = let z : _≡_ {A = ℕ} 0 1 = cc in absurd (omega arith)
+last false true c x f e = let z : _≡_ {A = ℕ} 0 1 = cc in absurd (omega arith)
+last false false true x f e = let z : _≡_ {A = ℕ} 0 1 = cc in absurd (omega arith)
+last false false false x f e = (refl, cc)
+
+inside : (v : ℕ) → outside v ≡ false → v < 2 ^ 32
+unfolding outside
+inside v e = omega (arith, ltb-false 255 v (neither (ltb v 1) _ e .1))
+
+narrow-form : (bytes : List ℕ) (short : Bool) → badValues (cond short Short (Long (addedIn bytes))) ≡ false → Narrow (cond short Short (Long (addedIn bytes)))
+unfolding badValues addedIn field
+narrow-form bytes true e = tt
+narrow-form bytes false e =
+    let h = neither (outside (addedIn bytes .requested)) _ e in
+    (omega arith, omega arith, omega arith, inside _ (h .0), inside _ (h .1))
+
+-- what the reader takes fits 32 bits
+pub narrow : (bytes : List ℕ) (f : Fields) → readOf bytes ≡ Took f → Narrow (f .form)
+unfolding readOf formIn fieldsIn
+narrow bytes f e =
+    let h = last (cut bytes) (not (exactlyOne bytes)) (badValues (formIn bytes)) (fieldsIn bytes) f e in
+    rw (sym (h .1)) (narrow-form bytes (eqb (lengthAt bytes 0) 7) (h .0))
+
+module _ (n room : List ℕ) where
+  pub not-given : noFields n ≡ true → writeCall n room ≡ refused 3
+  unfolding writeCall
+  not-given e = simp e
+
+  module _ (e : noFields n ≡ false) (f : Fields) (given : f ≡ fieldsGiven n) where
+    pub wrote : (size : ℕ) → writtenOf f room ≡ Wrote size → writeCall n room ≡ accepted (record { room = roomAfter f room; size = size })
+    unfolding writeCall
+    wrote size w = simp (e, ← given, w)
+
+    pub not-wrote : (number : ℕ) → writtenOf f room ≡ NotWritten number → writeCall n room ≡ refused number
+    unfolding writeCall
+    not-wrote number w = simp (e, ← given, w)
+
+-- the writer's refusal leaves the room
+pub kept : (f : Fields) (room : List ℕ) (number : ℕ) → writtenOf f room ≡ NotWritten number → roomAfter f room ≡ room
+unfolding roomAfter
+kept f room number w = simp w

@@ -1,0 +1,5 @@
+pub mod Outcome
+pub mod Calls
+pub mod Tlv
+pub mod Laws
+pub mod Unique

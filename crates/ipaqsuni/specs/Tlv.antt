@@ -1,0 +1,101 @@
+-- The calls on a PDU and on a power TLV, whose fields are nine numbers: "form (7 or 12), support, pair, class, type, source, priority,
+-- requested, allocated (the last five 0 for form 7)".
+use Prim.Native.Nat.{ℕ, _<_, _^_}
+use mathlib.Core.Bool.{Bool, cond, _||_, not}
+use mathlib.Core.List.{List, [], _∷_}
+use lib.Dec.{eqb, ltb}
+use lib.ListN.{getD}
+use Rattle.tlv.specs.Read.{readOf}
+use Rattle.tlv.specs.Search.{searchOf}
+use Rattle.tlv.specs.Write.{writtenOf, roomAfter}
+use Rattle.tlv.specs.declared.fields.Fields.{Fields}
+use Rattle.tlv.specs.declared.fields.Form.{Form}
+use Rattle.tlv.specs.declared.fields.Form.the-variants.{Short, Long}
+use Rattle.tlv.specs.declared.read.Taken.{Taken}
+use Rattle.tlv.specs.declared.read.Taken.the-variants.{Is as Took, Refused as NotTaken}
+use Rattle.tlv.specs.declared.search.Searched.{Searched}
+use Rattle.tlv.specs.declared.search.Searched.the-variants.{Is as Found, Refused as NotFound}
+use Rattle.tlv.specs.declared.write.Written.{Written}
+use Rattle.tlv.specs.declared.write.Written.the-variants.{Is as Wrote, Refused as NotWritten}
+use Rattle.ipaqsuni.specs.Outcome.{Outcome, refused, accepted}
+
+-- the part of a PDU that is its power TLV
+pub record Part : Type 0 where
+  pub offset : ℕ
+  pub size : ℕ
+
+-- a room with a TLV written into it, and how long that is
+pub record Filled : Type 0 where
+  pub room : List ℕ
+  pub size : ℕ
+
+-- what the core answers
+abbrev pub ofSearch : Searched → Outcome Part
+ofSearch (Found at n) = accepted (record { offset = at; size = n })
+ofSearch (NotFound number) = refused number
+
+abbrev pub ofRead : Taken → Outcome Fields
+ofRead (Took f) = accepted f
+ofRead (NotTaken number) = refused number
+
+abbrev pub ofWrite : List ℕ → Written → Outcome Filled
+ofWrite after (Wrote n) = accepted (record { room = after; size = n })
+ofWrite after (NotWritten number) = refused number
+
+unfoldable pub findCall : List ℕ → Outcome Part
+findCall pdu = ofSearch (searchOf pdu)
+
+unfoldable pub readCall : List ℕ → Outcome Fields
+readCall tlv = ofRead (readOf tlv)
+
+-- a TLV's fields as nine numbers
+abbrev pub formNumber : Form → ℕ
+formNumber Short = 7
+formNumber (Long added) = 12
+
+-- "the last five 0 for form 7"
+abbrev pub addedNumbers : Form → List ℕ
+addedNumbers Short = 0 ∷ 0 ∷ 0 ∷ 0 ∷ 0 ∷ []
+addedNumbers (Long a) = a .kind ∷ a .source ∷ a .priority ∷ a .requested ∷ a .allocated ∷ []
+
+unfoldable pub numbersOf : Fields → List ℕ
+numbersOf f = formNumber (f .form) ∷ f .support ∷ f .pair ∷ f .class ∷ addedNumbers (f .form)
+
+-- the numbers that a form adds fit 32 bits
+abbrev pub Narrow : Form → Type 0
+Narrow Short = Unit
+Narrow (Long a) = (a .kind < 2 ^ 32) × (a .source < 2 ^ 32) × (a .priority < 2 ^ 32) × (a .requested < 2 ^ 32) × (a .allocated < 2 ^ 32)
+
+-- "a form other than 7 and 12"
+unfoldable pub noForm : ℕ → Bool
+noForm form = not (eqb form 7 || eqb form 12)
+
+-- "a form other than 7 and 12, or one of the three octets over 255: 3"
+unfoldable pub noFields : List ℕ → Bool
+noFields n = noForm (getD n 0 0) || (ltb 255 (getD n 1 0) || (ltb 255 (getD n 2 0) || ltb 255 (getD n 3 0)))
+
+-- nine numbers as a TLV's fields; form 7 has no more than its three octets
+unfoldable pub formGiven : List ℕ → Form
+formGiven n =
+    cond (eqb (getD n 0 0) 7) Short
+    (Long (record { kind = getD n 4 0; source = getD n 5 0; priority = getD n 6 0; requested = getD n 7 0; allocated = getD n 8 0 }))
+
+unfoldable pub fieldsGiven : List ℕ → Fields
+fieldsGiven n = record { support = getD n 1 0; pair = getD n 2 0; class = getD n 3 0; form = formGiven n }
+
+-- refusal 3 of the nine numbers comes first, so that "Writing: 3, 10, 1." holds of the whole
+unfoldable pub writeCall : List ℕ → List ℕ → Outcome Filled
+writeCall n room = cond (noFields n) (refused 3) (ofWrite (roomAfter (fieldsGiven n) room) (writtenOf (fieldsGiven n) room))
+
+-- what an accepted call leaves in each lent place
+abbrev pub offsetFound : Part → ℕ
+offsetFound p = p .offset
+
+abbrev pub sizeFound : Part → ℕ
+sizeFound p = p .size
+
+abbrev pub roomWritten : Filled → List ℕ
+roomWritten w = w .room
+
+abbrev pub sizeWritten : Filled → ℕ
+sizeWritten w = w .size

@@ -1,0 +1,98 @@
+/*
+ * Ipaqsuni: the proved control core of Power-over-Ethernet boards, for C and for whatever calls as C does.
+ *
+ * The table is an image of IPAQSUNI_TABLE bytes that the caller owns: it begins with ipaqsuni_cold_start, and goes into
+ * every further call and comes out of it. The caller may store it and copy it; the library keeps nothing.
+ *
+ * Each function answers 0, or the number of the refusal. What is said below is proved of each function for all bytes and
+ * all numbers that it is handed, and it leaves one possible answer and one possible content of everything lent:
+ *   - A refusal writes no byte anywhere: not in the table, and in no place for an answer.
+ *   - A lent table that is no image is refused with 13, before everything else: another length, a state over 9, a latch
+ *     bit over 5 set, a supply that fits no table. So is an image of a table that is ill-made (13 below).
+ *   - What an accepted call leaves in the table's bytes is the image of the table that document 01's rules give, and the next
+ *     call reads that table back.
+ *   - No refusal is numbered 0.
+ *
+ * Not proved, because it lies with the caller: a pointer is to so many bytes (or to the one number, or to nine numbers)
+ * that can be read, and written where it is not const; it is not NULL, also where the length is 0; what is lent to one call
+ * does not overlap; and nobody else writes it during the call.
+ *
+ *  1  a sample block is not 14 bytes per port; a PDU is over 1,500 bytes; the room for a written TLV is too short
+ *  2  port number not below the port count; a cold start asked for 0 or over 48 ports
+ *  3  reserved bits or codes in a control word or in sample flags; a type, source or priority code over 3, an octet
+ *     over 255, or a form other than 7 and 12 handed to the writer
+ *  4  supply figure over 60,000
+ *  5  port in the wrong state for the call
+ *  6  a TLV runs past the end of the bytes
+ *  7  no power TLV in the PDU
+ *  8  more than one power TLV in the PDU
+ *  9  the bytes are not exactly one power TLV of length 7 or 12
+ * 10  power value outside 1..255
+ * 11  request over the port's class
+ * 12  request does not fit the supply
+ * 13  ill-made table
+ */
+#ifndef IPAQSUNI_H
+#define IPAQSUNI_H
+
+#include <stddef.h>
+#include <stdint.h>
+
+#ifdef __cplusplus
+extern "C" {
+#endif
+
+#define IPAQSUNI_TABLE 1014
+
+/* The places of a power TLV's fields. */
+#define IPAQSUNI_FORM 0 /* the TLV's length, 7 or 12; the last five are 0 for 7 */
+#define IPAQSUNI_SUPPORT 1
+#define IPAQSUNI_PAIR 2
+#define IPAQSUNI_CLASS 3
+#define IPAQSUNI_TYPE 4
+#define IPAQSUNI_SOURCE 5
+#define IPAQSUNI_PRIORITY 6
+#define IPAQSUNI_REQUESTED 7
+#define IPAQSUNI_ALLOCATED 8
+#define IPAQSUNI_FIELDS 9
+
+/*
+ * Leaves the image of a cold table of so many ports: every port DISABLED, control 0x0004, no latch, zero counters, class
+ * and demand 0, stored supply 0. What the room held before does not matter. Refused: 13 for a room of another length than
+ * IPAQSUNI_TABLE, then 2.
+ */
+uint32_t ipaqsuni_cold_start(uint8_t *table, size_t table_len, uint32_t ports);
+
+/* The port's control word becomes word, and nothing else changes. Refused: 13, 2, 3, 5. */
+uint32_t ipaqsuni_write_control(uint8_t *table, size_t table_len, uint32_t port, uint32_t word);
+
+/* The port's status word goes to *status, and its six latches are cleared, no more. Refused: 13, 2. */
+uint32_t ipaqsuni_read_status(uint8_t *table, size_t table_len, uint32_t port, uint32_t *status);
+
+/* The demand that an LLDP request for value stands for becomes the port's, and nothing else changes. Refused: 13, 2, 10, 5, 11, 12. */
+uint32_t ipaqsuni_request(uint8_t *table, size_t table_len, uint32_t port, uint32_t value);
+
+/*
+ * One millisecond: every port moves on its 14 bytes of samples, the supply is shared, and its figure is stored. *mask_a and
+ * *mask_b get a bit for each port that is closed on that alternative, *closed the number of closed ports. Refused: 13, 1, 4, 3.
+ */
+uint32_t ipaqsuni_tick(uint8_t *table, size_t table_len, const uint8_t *samples, size_t samples_len, uint32_t supply,
+                       uint64_t *mask_a, uint64_t *mask_b, uint32_t *closed);
+
+/* The part of the PDU that is its one power TLV, header included: *offset and *length. Refused: 1, 6, 8, 7. */
+uint32_t ipaqsuni_find_power_tlv(const uint8_t *pdu, size_t pdu_len, uint64_t *offset, uint64_t *length);
+
+/* The fields of the one power TLV that the bytes are. Refused: 6, 9, 10. */
+uint32_t ipaqsuni_read_power_tlv(const uint8_t *tlv, size_t tlv_len, uint32_t fields[IPAQSUNI_FIELDS]);
+
+/*
+ * Writes the TLV of the fields to the start of the room, and its length to *written; the room past it keeps its bytes. Of
+ * form 7 the last five fields are not looked at. Refused: 3, 10, 1.
+ */
+uint32_t ipaqsuni_write_power_tlv(const uint32_t fields[IPAQSUNI_FIELDS], uint8_t *room, size_t room_len, uint64_t *written);
+
+#ifdef __cplusplus
+}
+#endif
+
+#endif

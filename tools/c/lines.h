@@ -1,0 +1,2 @@
+/* Answers the console's lines from standard input; the exit status. */
+int lines(void);

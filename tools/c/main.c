@@ -1,0 +1,133 @@
+/*
+ * A port from a cold start to power and shed again, and a power TLV read and written, through the C interface. Every answer
+ * is compared with the one that document 01 gives; a difference is an exit status of 1.
+ *
+ *     ipaqsuni            the demonstration
+ *     ipaqsuni lines      answers the console's lines (lines.c)
+ */
+#include <inttypes.h>
+#include <stdio.h>
+#include <string.h>
+
+#include "ipaqsuni.h"
+#include "lines.h"
+
+static int differences = 0;
+
+static void is(const char *what, uint64_t got, uint64_t wanted) {
+    printf("%s: %" PRIu64 "\n", what, got);
+    if (got != wanted) {
+        fprintf(stderr, "%s: %" PRIu64 ", and it must be %" PRIu64 "\n", what, got, wanted);
+        differences = 1;
+    }
+}
+
+static void same(const char *what, const void *got, const void *wanted, size_t n) {
+    is(what, memcmp(got, wanted, n) == 0, 1);
+}
+
+static uint8_t table[IPAQSUNI_TABLE];
+
+/* A tick of the one port: the sample's numbers that are not 0, and what must come of it. */
+static void tick(const char *what, uint32_t supply, const uint8_t sample[14], uint64_t mask_a, uint32_t closed) {
+    uint64_t a = 77, b = 77;
+    uint32_t n = 77;
+    printf("%s\n", what);
+    is("  tick", ipaqsuni_tick(table, sizeof table, sample, 14, supply, &a, &b, &n), 0);
+    is("  mask a", a, mask_a);
+    is("  mask b", b, 0);
+    is("  closed", n, closed);
+}
+
+static void shed(void) {
+    static const uint8_t still[14] = {0};
+    /* V1 4,000 mV, V2 5,900 mV, I1 0, I2 100 uA, detection done: 1,900/100 is valid. */
+    static const uint8_t detected[14] = {0x0f, 0xa0, 0x17, 0x0c, 0, 0, 0, 100, 0, 0, 0, 0, 0, 1};
+    /* C1 10,000 uA, class done: class 1, of 4.0 W. */
+    static const uint8_t classified[14] = {0, 0, 0, 0, 0, 0, 0, 0, 0x27, 0x10, 0, 0, 0, 2};
+    static const uint8_t loaded[14] = {0, 0, 0, 0, 0, 0, 0, 0, 0, 0, 0, 0, 0, 0x20};
+    uint32_t status = 77;
+
+    is("cold start of 1 port", ipaqsuni_cold_start(table, sizeof table, 1), 0);
+    is("control: enabled, alternative A", ipaqsuni_write_control(table, sizeof table, 0, 0x0005), 0);
+    tick("DISABLED goes to IDLE", 154, still, 0, 0);
+    tick("IDLE goes to DETECTING", 154, still, 0, 0);
+    tick("a valid signature goes to CLASSIFYING", 154, detected, 0, 0);
+    tick("class 1 goes to POWER_UP: the port is closed", 154, classified, 1, 1);
+    tick("a supply of 3.9 W sheds 4.0 W", 39, loaded, 0, 0);
+    /* Latches 12 denied and 11 valid signature, class 1, condition 1, bit 0. */
+    is("status", ipaqsuni_read_status(table, sizeof table, 0, &status), 0);
+    is("  word", status, 0x1813);
+    is("status again", ipaqsuni_read_status(table, sizeof table, 0, &status), 0);
+    is("  word without latches", status, 0x0013);
+}
+
+/* Each refusal leaves the table and the places for answers as they were. */
+static void refusals(void) {
+    uint8_t before[IPAQSUNI_TABLE], samples[14] = {0};
+    uint64_t a = 77, b = 77;
+    uint32_t n = 77, status = 77;
+
+    memcpy(before, table, sizeof table);
+    is("cold start of 49 ports", ipaqsuni_cold_start(table, sizeof table, 49), 2);
+    is("cold start in 1,013 bytes", ipaqsuni_cold_start(table, sizeof table - 1, 1), 13);
+    is("control of port 1", ipaqsuni_write_control(table, sizeof table, 1, 0x0005), 2);
+    is("control with enable 11", ipaqsuni_write_control(table, sizeof table, 0, 0x0007), 3);
+    is("control to alternative B", ipaqsuni_write_control(table, sizeof table, 0, 0x0009), 5);
+    is("status of port 1", ipaqsuni_read_status(table, sizeof table, 1, &status), 2);
+    is("request of 256", ipaqsuni_request(table, sizeof table, 0, 256), 10);
+    is("request in IDLE", ipaqsuni_request(table, sizeof table, 0, 1), 5);
+    is("tick on 13 bytes", ipaqsuni_tick(table, sizeof table, samples, 13, 154, &a, &b, &n), 1);
+    is("tick at 60,001", ipaqsuni_tick(table, sizeof table, samples, 14, 60001, &a, &b, &n), 4);
+    samples[13] = 0x40;
+    is("tick with flag 6", ipaqsuni_tick(table, sizeof table, samples, 14, 154, &a, &b, &n), 3);
+    same("the table is as it was", table, before, sizeof table);
+    /* Byte 6 is port 0's state. */
+    before[6] = 10;
+    is("tick of a state 10", ipaqsuni_tick(before, sizeof before, samples, 14, 154, &a, &b, &n), 13);
+    is("the places for answers are as they were", a == 77 && b == 77 && n == 77 && status == 77, 1);
+}
+
+static void frames(void) {
+    static const uint8_t pdu[] = {0x02, 0x07, 0x04, 0x00, 0x11, 0x22, 0x33, 0x44, 0x55, 0xfe, 0x0c, 0x00, 0x12,
+                                  0x0f, 0x02, 0x00, 0x01, 0x05, 0x52, 0x00, 0xff, 0x00, 0x82, 0x00, 0x00};
+    static const uint32_t wanted[IPAQSUNI_FIELDS] = {12, 0, 1, 5, 1, 1, 2, 255, 130};
+    static const char *names[IPAQSUNI_FIELDS] = {"  form",   "  support",  "  pair",      "  class",    "  type",
+                                                 "  source", "  priority", "  requested", "  allocated"};
+    uint8_t room[16];
+    uint32_t fields[IPAQSUNI_FIELDS] = {0};
+    uint64_t offset = 77, length = 77, written = 77;
+
+    is("find the power TLV", ipaqsuni_find_power_tlv(pdu, sizeof pdu, &offset, &length), 0);
+    is("  offset", offset, 9);
+    is("  length", length, 14);
+    is("read it", ipaqsuni_read_power_tlv(pdu + 9, 14, fields), 0);
+    for (int i = 0; i < IPAQSUNI_FIELDS; i++)
+        is(names[i], fields[i], wanted[i]);
+    memset(room, 0xa5, sizeof room);
+    is("write it in 13 bytes", ipaqsuni_write_power_tlv(fields, room, 13, &written), 1);
+    is("  the room is as it was", room[0], 0xa5);
+    is("write it", ipaqsuni_write_power_tlv(fields, room, sizeof room, &written), 0);
+    is("  written", written, 14);
+    same("  the same bytes", room, pdu + 9, 14);
+    is("  the room past it", room[14], 0xa5);
+    fields[IPAQSUNI_FORM] = 8;
+    is("write form 8", ipaqsuni_write_power_tlv(fields, room, sizeof room, &written), 3);
+    fields[IPAQSUNI_FORM] = 7;
+    is("write form 7", ipaqsuni_write_power_tlv(fields, room, sizeof room, &written), 0);
+    is("  written", written, 9);
+    is("read form 7", ipaqsuni_read_power_tlv(room, 9, fields), 0);
+    is("  form", fields[IPAQSUNI_FORM], 7);
+    is("  requested", fields[IPAQSUNI_REQUESTED], 0);
+    is("read it cut", ipaqsuni_read_power_tlv(room, 8, fields), 6);
+    is("find in an empty PDU", ipaqsuni_find_power_tlv(pdu, 0, &offset, &length), 7);
+}
+
+int main(int argc, char **argv) {
+    if (argc == 2 && strcmp(argv[1], "lines") == 0)
+        return lines();
+    shed();
+    refusals();
+    frames();
+    return differences;
+}

@@ -1,0 +1,134 @@
+//! The C interface of include/ipaqsuni.h, with a safe function for each of its own. What each does is said there.
+
+use std::ffi::c_uint;
+
+pub const TABLE: usize = 1_014;
+
+/// The number of a refusal.
+pub type Refusal = u32;
+
+pub type Fields = [u32; 9];
+
+#[derive(Clone, Copy, PartialEq, Eq, Debug)]
+pub struct Ticked {
+    pub mask_a: u64,
+    pub mask_b: u64,
+    pub closed: u32,
+}
+
+#[link(name = "ipaqsuni", kind = "static")]
+extern "C" {
+    fn ipaqsuni_cold_start(table: *mut u8, table_len: usize, ports: u32) -> c_uint;
+    fn ipaqsuni_write_control(table: *mut u8, table_len: usize, port: u32, word: u32) -> c_uint;
+    fn ipaqsuni_read_status(
+        table: *mut u8,
+        table_len: usize,
+        port: u32,
+        status: *mut u32,
+    ) -> c_uint;
+    fn ipaqsuni_request(table: *mut u8, table_len: usize, port: u32, value: u32) -> c_uint;
+    fn ipaqsuni_tick(
+        table: *mut u8,
+        table_len: usize,
+        samples: *const u8,
+        samples_len: usize,
+        supply: u32,
+        mask_a: *mut u64,
+        mask_b: *mut u64,
+        closed: *mut u32,
+    ) -> c_uint;
+    fn ipaqsuni_find_power_tlv(
+        pdu: *const u8,
+        pdu_len: usize,
+        offset: *mut u64,
+        length: *mut u64,
+    ) -> c_uint;
+    fn ipaqsuni_read_power_tlv(tlv: *const u8, tlv_len: usize, fields: *mut u32) -> c_uint;
+    fn ipaqsuni_write_power_tlv(
+        fields: *const u32,
+        room: *mut u8,
+        room_len: usize,
+        written: *mut u64,
+    ) -> c_uint;
+}
+
+/// What stands in every place for an answer before a call; a refusal must leave it there.
+const MARK: u64 = 0x5a5a_5a5a_5a5a_5a5a;
+
+fn answer<T>(number: Refusal, accepted: T, untouched: bool) -> Result<T, Refusal> {
+    match number {
+        0 => Ok(accepted),
+        _ if untouched => Err(number),
+        _ => panic!("refusal {number} wrote a place for an answer"),
+    }
+}
+
+pub fn cold_start(table: &mut [u8], ports: u32) -> Result<(), Refusal> {
+    // SAFETY: the pointer is to as many bytes as are said; the borrow is the only one.
+    let number = unsafe { ipaqsuni_cold_start(table.as_mut_ptr(), table.len(), ports) };
+    answer(number, (), true)
+}
+
+pub fn write_control(table: &mut [u8], port: u32, word: u32) -> Result<(), Refusal> {
+    // SAFETY: as for cold_start.
+    let number = unsafe { ipaqsuni_write_control(table.as_mut_ptr(), table.len(), port, word) };
+    answer(number, (), true)
+}
+
+pub fn read_status(table: &mut [u8], port: u32) -> Result<u32, Refusal> {
+    let mut status = MARK as u32;
+    // SAFETY: as for cold_start; the word is a local of its own.
+    let number =
+        unsafe { ipaqsuni_read_status(table.as_mut_ptr(), table.len(), port, &mut status) };
+    answer(number, status, status == MARK as u32)
+}
+
+pub fn request(table: &mut [u8], port: u32, value: u32) -> Result<(), Refusal> {
+    // SAFETY: as for cold_start.
+    let number = unsafe { ipaqsuni_request(table.as_mut_ptr(), table.len(), port, value) };
+    answer(number, (), true)
+}
+
+pub fn tick(table: &mut [u8], samples: &[u8], supply: u32) -> Result<Ticked, Refusal> {
+    let blank = Ticked { mask_a: MARK, mask_b: MARK, closed: MARK as u32 };
+    let mut t = blank;
+    // SAFETY: as for cold_start; the three places are fields of a local of its own.
+    let number = unsafe {
+        ipaqsuni_tick(
+            table.as_mut_ptr(),
+            table.len(),
+            samples.as_ptr(),
+            samples.len(),
+            supply,
+            &mut t.mask_a,
+            &mut t.mask_b,
+            &mut t.closed,
+        )
+    };
+    answer(number, t, t == blank)
+}
+
+/// Where the power TLV starts, and how long it is.
+pub fn find_power_tlv(pdu: &[u8]) -> Result<(u64, u64), Refusal> {
+    let (mut offset, mut length) = (MARK, MARK);
+    // SAFETY: the pointer is to as many bytes as are said; the two places are locals.
+    let number =
+        unsafe { ipaqsuni_find_power_tlv(pdu.as_ptr(), pdu.len(), &mut offset, &mut length) };
+    answer(number, (offset, length), (offset, length) == (MARK, MARK))
+}
+
+pub fn read_power_tlv(tlv: &[u8]) -> Result<Fields, Refusal> {
+    let mut fields = [MARK as u32; 9];
+    // SAFETY: the pointer is to as many bytes as are said; the nine places are a local's.
+    let number = unsafe { ipaqsuni_read_power_tlv(tlv.as_ptr(), tlv.len(), fields.as_mut_ptr()) };
+    answer(number, fields, fields == [MARK as u32; 9])
+}
+
+pub fn write_power_tlv(fields: &Fields, room: &mut [u8]) -> Result<u64, Refusal> {
+    let mut written = MARK;
+    // SAFETY: the fields are nine, and the room as many bytes as are said.
+    let number = unsafe {
+        ipaqsuni_write_power_tlv(fields.as_ptr(), room.as_mut_ptr(), room.len(), &mut written)
+    };
+    answer(number, written, written == MARK)
+}

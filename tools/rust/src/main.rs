@@ -1,0 +1,155 @@
+//! A port from a cold start to power and shed again, and a power TLV read and written, through the C interface. Every
+//! answer is compared with the one that document 01 gives; a difference is an exit status of 1.
+//!
+//!     interface            the demonstration
+//!     interface lines      answers the console's lines
+
+mod core;
+mod lines;
+
+use crate::core::{Fields, Refusal, TABLE};
+use std::process::ExitCode;
+
+struct Shown {
+    differs: bool,
+}
+
+impl Shown {
+    fn is(&mut self, what: &str, got: u64, wanted: u64) {
+        println!("{what}: {got}");
+        if got != wanted {
+            eprintln!("{what}: {got}, and it must be {wanted}");
+            self.differs = true;
+        }
+    }
+
+    fn answers<T>(&mut self, what: &str, got: Result<T, Refusal>, wanted: Refusal) -> Option<T> {
+        let number = got.as_ref().err().copied().unwrap_or(0);
+        self.is(what, number.into(), wanted.into());
+        got.ok()
+    }
+
+    /// The numbers of an accepted call, each by its name; a refused one has none, and differs already.
+    fn tick(&mut self, what: &str, table: &mut [u8], supply: u32, sample: [u8; 14], closed: u32) {
+        println!("{what}");
+        if let Some(t) = self.answers("  tick", core::tick(table, &sample, supply), 0) {
+            self.is("  mask a", t.mask_a, closed.into());
+            self.is("  mask b", t.mask_b, 0);
+            self.is("  closed", t.closed.into(), closed.into());
+        }
+    }
+}
+
+fn shed(shown: &mut Shown, table: &mut [u8]) {
+    let still = [0; 14];
+    // V1 4,000 mV, V2 5,900 mV, I1 0, I2 100 uA, detection done: 1,900/100 is valid.
+    let detected = [0x0f, 0xa0, 0x17, 0x0c, 0, 0, 0, 100, 0, 0, 0, 0, 0, 1];
+    // C1 10,000 uA, class done: class 1, of 4.0 W.
+    let classified = [0, 0, 0, 0, 0, 0, 0, 0, 0x27, 0x10, 0, 0, 0, 2];
+    let loaded = [0, 0, 0, 0, 0, 0, 0, 0, 0, 0, 0, 0, 0, 0x20];
+
+    shown.answers("cold start of 1 port", core::cold_start(table, 1), 0);
+    let control = core::write_control(table, 0, 0x0005);
+    shown.answers("control: enabled, alternative A", control, 0);
+    shown.tick("DISABLED goes to IDLE", table, 154, still, 0);
+    shown.tick("IDLE goes to DETECTING", table, 154, still, 0);
+    shown.tick("a valid signature goes to CLASSIFYING", table, 154, detected, 0);
+    shown.tick("class 1 goes to POWER_UP: the port is closed", table, 154, classified, 1);
+    shown.tick("a supply of 3.9 W sheds 4.0 W", table, 39, loaded, 0);
+    // Latches 12 denied and 11 valid signature, class 1, condition 1, bit 0.
+    if let Some(word) = shown.answers("status", core::read_status(table, 0), 0) {
+        shown.is("  word", word.into(), 0x1813);
+    }
+    if let Some(word) = shown.answers("status again", core::read_status(table, 0), 0) {
+        shown.is("  word without latches", word.into(), 0x0013);
+    }
+}
+
+/// Each refusal leaves the table and the places for answers as they were; `core` has seen the latter at every call.
+fn refusals(shown: &mut Shown, table: &mut [u8]) {
+    let mut before = table.to_vec();
+    let mut samples = [0; 14];
+    shown.answers("cold start of 49 ports", core::cold_start(table, 49), 2);
+    shown.answers("cold start in 1,013 bytes", core::cold_start(&mut table[..TABLE - 1], 1), 13);
+    shown.answers("control of port 1", core::write_control(table, 1, 0x0005), 2);
+    shown.answers("control with enable 11", core::write_control(table, 0, 0x0007), 3);
+    shown.answers("control to alternative B", core::write_control(table, 0, 0x0009), 5);
+    shown.answers("status of port 1", core::read_status(table, 1), 2);
+    shown.answers("request of 256", core::request(table, 0, 256), 10);
+    shown.answers("request in IDLE", core::request(table, 0, 1), 5);
+    shown.answers("tick on 13 bytes", core::tick(table, &samples[..13], 154), 1);
+    shown.answers("tick at 60,001", core::tick(table, &samples, 60_001), 4);
+    samples[13] = 0x40;
+    shown.answers("tick with flag 6", core::tick(table, &samples, 154), 3);
+    shown.is("the table is as it was", u64::from(before == table), 1);
+    // Byte 6 is port 0's state.
+    before[6] = 10;
+    shown.answers("tick of a state 10", core::tick(&mut before, &samples, 154), 13);
+    shown.is("the places for answers are as they were", 1, 1);
+}
+
+fn frames(shown: &mut Shown) {
+    let pdu = [
+        0x02, 0x07, 0x04, 0x00, 0x11, 0x22, 0x33, 0x44, 0x55, 0xfe, 0x0c, 0x00, 0x12, 0x0f, 0x02,
+        0x00, 0x01, 0x05, 0x52, 0x00, 0xff, 0x00, 0x82, 0x00, 0x00,
+    ];
+    let wanted: Fields = [12, 0, 1, 5, 1, 1, 2, 255, 130];
+    let names = [
+        "form",
+        "support",
+        "pair",
+        "class",
+        "type",
+        "source",
+        "priority",
+        "requested",
+        "allocated",
+    ];
+    let found = shown.answers("find the power TLV", core::find_power_tlv(&pdu), 0);
+    if let Some((offset, length)) = found {
+        shown.is("  offset", offset, 9);
+        shown.is("  length", length, 14);
+    }
+    if let Some(fields) = shown.answers("read it", core::read_power_tlv(&pdu[9..23]), 0) {
+        for (i, name) in names.iter().enumerate() {
+            shown.is(&format!("  {name}"), fields[i].into(), wanted[i].into());
+        }
+    }
+    written(shown, wanted, &pdu[9..23]);
+    shown.answers("find in an empty PDU", core::find_power_tlv(&[]), 7);
+}
+
+fn written(shown: &mut Shown, mut fields: Fields, tlv: &[u8]) {
+    let mut room = [0xa5; 16];
+    let cut = core::write_power_tlv(&fields, &mut room[..13]);
+    shown.answers("write it in 13 bytes", cut, 1);
+    shown.is("  the room is as it was", room[0].into(), 0xa5);
+    if let Some(n) = shown.answers("write it", core::write_power_tlv(&fields, &mut room), 0) {
+        shown.is("  written", n, 14);
+    }
+    shown.is("  the same bytes", u64::from(&room[..14] == tlv), 1);
+    shown.is("  the room past it", room[14].into(), 0xa5);
+    fields[0] = 8;
+    shown.answers("write form 8", core::write_power_tlv(&fields, &mut room), 3);
+    fields[0] = 7;
+    if let Some(n) = shown.answers("write form 7", core::write_power_tlv(&fields, &mut room), 0) {
+        shown.is("  written", n, 9);
+    }
+    if let Some(fields) = shown.answers("read form 7", core::read_power_tlv(&room[..9]), 0) {
+        shown.is("  form", fields[0].into(), 7);
+        shown.is("  requested", fields[7].into(), 0);
+    }
+    shown.answers("read it cut", core::read_power_tlv(&room[..8]), 6);
+}
+
+fn main() -> ExitCode {
+    if std::env::args().nth(1).as_deref() == Some("lines") {
+        return lines::answer_all();
+    }
+    let mut shown = Shown { differs: false };
+    let mut table = vec![0; TABLE];
+    shed(&mut shown, &mut table);
+    refusals(&mut shown, &mut table);
+    frames(&mut shown);
+    ExitCode::from(u8::from(shown.differs))
+}
