@@ -1,0 +1,68 @@
+//! The table's image of 1,014 bytes (docs/CONSOLE.md).
+
+use super::form::{Port, Table, PLACES, STATES};
+
+pub const IMAGE_BYTES: usize = 1_014;
+const HEAD_BYTES: usize = 6;
+const PORT_BYTES: usize = 21;
+
+fn word(bytes: &[u8], at: usize) -> u16 {
+    u16::from_be_bytes([bytes[at], bytes[at + 1]])
+}
+
+fn port_of(bytes: &[u8]) -> Option<Port> {
+    if bytes[6] > 63 {
+        return None;
+    }
+    Some(Port {
+        state: *STATES.get(usize::from(bytes[0]))?,
+        control: word(bytes, 1),
+        class: bytes[3],
+        demand: word(bytes, 4),
+        latches: bytes[6],
+        detection: word(bytes, 7),
+        backoff: word(bytes, 9),
+        error_delay: word(bytes, 11),
+        power_on: word(bytes, 13),
+        limiting: word(bytes, 15),
+        overload: word(bytes, 17),
+        no_load: word(bytes, 19),
+    })
+}
+
+/// None for what is no image.
+pub fn load(image: &[u8]) -> Option<Table> {
+    if image.len() != IMAGE_BYTES || word(image, 2) != 0 {
+        return None;
+    }
+    let port = |p: usize| port_of(&image[HEAD_BYTES + p * PORT_BYTES..][..PORT_BYTES]);
+    let mut ports = [port(0)?; PLACES];
+    for (p, place) in ports.iter_mut().enumerate() {
+        *place = port(p)?;
+    }
+    Some(Table { ports, count: word(image, 0), supply: word(image, 4) })
+}
+
+pub fn store(table: &Table) -> Vec<u8> {
+    let mut image = Vec::with_capacity(IMAGE_BYTES);
+    image.extend_from_slice(&table.count.to_be_bytes());
+    image.extend_from_slice(&u32::from(table.supply).to_be_bytes());
+    for port in &table.ports {
+        image.push(port.state as u8);
+        image.extend_from_slice(&port.control.to_be_bytes());
+        image.push(port.class);
+        image.extend_from_slice(&port.demand.to_be_bytes());
+        image.push(port.latches);
+        let counts = [
+            port.detection,
+            port.backoff,
+            port.error_delay,
+            port.power_on,
+            port.limiting,
+            port.overload,
+            port.no_load,
+        ];
+        image.extend(counts.iter().flat_map(|count| count.to_be_bytes()));
+    }
+    image
+}
