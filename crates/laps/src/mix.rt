@@ -1,4 +1,5 @@
-// Checksums: each number of an answer is taken in after a turn by one bit, so that its place counts too.
+// Checksums: each number of an answer is added after a turn by one bit, so that its place counts too. (Laps that are alike would
+// undo each other under an exclusive or.)
 use table::form::Closed;
 use tlv::fields::Added;
 use tlv::fields::Fields;
@@ -7,12 +8,12 @@ use tlv::read::Taken;
 use tlv::search::Searched;
 
 fn with(sum: u64, n: u64) -> u64 {
-    ((sum << 1) | (sum >> 63)) ^ n
+    std::num::wrapping_add_u64((sum << 1) | (sum >> 63), n)
 }
 
 pub fn closed(sum: u64, answer: Closed) -> u64 {
     match answer {
-        Closed::Ports(a, b, n) => with(with(sum, a), b) ^ n as u64,
+        Closed::Ports(a, b, n) => with(with(with(sum, a), b), n as u64),
         Closed::Refused(k) => with(sum, k as u64),
     }
 }

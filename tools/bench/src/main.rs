@@ -60,23 +60,27 @@ fn mixed(mix: &Mix) -> Result<f64, String> {
 }
 
 fn growth() -> Result<(), String> {
-    println!(
-        "growth with the ports, all claims fit: median ns a tick, {GROWTH_TICKS} ticks a round"
-    );
-    println!("  ports    plain   proved    ratio");
+    println!("growth with the ports, all claims fit: ns a tick, {GROWTH_TICKS} ticks a round");
+    println!("  ports      plain best  median     proved best  median     ratio best  median");
     for count in GROWTH {
         let pair = ticked(&mixes::mix("growth", count, false), GROWTH_TICKS, ROUNDS)?;
-        println!(
-            "  {count:>5} {:>8.1} {:>8.1} {:>8.2}",
-            pair.plain.median,
-            pair.proved.median,
-            pair.ratio()
-        );
+        let (plain, proved) = (&pair.plain, &pair.proved);
+        print!("  {count:>5}      {:>10.1} {:>7.1}", plain.best, plain.median);
+        print!("     {:>11.1} {:>7.1}", proved.best, proved.median);
+        println!("     {:>10.2} {:>7.2}", proved.best / plain.best, pair.ratio());
     }
     Ok(())
 }
 
+/// Whoever reads the times sees how busy the machine was. Nothing where the system does not say.
+fn load(when: &str) {
+    if let Ok(load) = std::fs::read_to_string("/proc/loadavg") {
+        println!("load of the machine {when}: {}", load.split(' ').next().unwrap_or(""));
+    }
+}
+
 fn times(root: &Path) -> Result<(), String> {
+    load("before");
     let fitting = mixed(&mixes::mix("every claim fits", 48, false))?;
     let short = mixed(&mixes::mix("short of supply", 48, true))?;
     growth()?;
@@ -84,6 +88,7 @@ fn times(root: &Path) -> Result<(), String> {
     looked("search, PDUs with one power TLV", &stored.sound, laps::find, proved::find)?;
     looked("search, PDUs that are refused", &stored.refused, laps::find, proved::find)?;
     looked("reader", &stored.tlvs, laps::read, proved::read)?;
+    load("after");
     println!("tick ratio, short of supply: {short:.2}");
     println!("tick ratio {fitting:.2}");
     Ok(())

@@ -47,19 +47,16 @@ fn port_in(r: &mut Random, state: State) -> Port {
         State::TestMode | State::TestError => 154,
         _ => 0,
     };
+    // Below the limits of the counters, and the class.
+    let lanes = [400, 1_900, 700, 300, 5, 5, 100].map(|limit| r.below(limit) as u16);
+    let lanes =
+        [lanes[0], lanes[1], lanes[2], lanes[3], lanes[4], lanes[5], lanes[6], u16::from(class)];
     Port {
         state,
         control: enable | (1 + r.below(2) as u16) << 2 | (r.below(4) as u16) << 4,
-        class,
         demand,
         latches: 0,
-        detection: r.below(400) as u16,
-        backoff: r.below(1_900) as u16,
-        error_delay: r.below(700) as u16,
-        power_on: r.below(300) as u16,
-        limiting: r.below(5) as u16,
-        overload: r.below(5) as u16,
-        no_load: r.below(100) as u16,
+        lanes,
     }
 }
 

@@ -36,18 +36,22 @@ pub const SHORT: u8 = 1 << 2;
 pub const OVERLOADED: u8 = 1 << 1;
 pub const ABSENT: u8 = 1;
 
+// The lanes of a port, in the image's order.
+pub const DETECTION: usize = 0;
+pub const BACKOFF: usize = 1;
+pub const ERROR_DELAY: usize = 2;
+pub const POWER_ON: usize = 3;
+pub const LIMITED: usize = 4;
+pub const OVER: usize = 5;
+pub const NO_LOAD: usize = 6;
+pub const CLASS: usize = 7;
+
 #[derive(Clone, Copy, PartialEq, Eq, Debug)]
 pub struct Port {
-    pub detection: u16,
-    pub backoff: u16,
-    pub error_delay: u16,
-    pub power_on: u16,
-    pub limiting: u16,
-    pub overload: u16,
-    pub no_load: u16,
+    /// The seven counters and the class, side by side: one comparison of eight lanes tests them all.
+    pub lanes: [u16; 8],
     pub control: u16,
     pub demand: u16,
-    pub class: u8,
     pub latches: u8,
     pub state: State,
 }

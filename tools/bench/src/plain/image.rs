@@ -1,6 +1,6 @@
 //! The table's image of 1,014 bytes (docs/CONSOLE.md).
 
-use super::form::{Port, Table, PLACES, STATES};
+use super::form::{Port, Table, CLASS, PLACES, STATES};
 
 pub const IMAGE_BYTES: usize = 1_014;
 const HEAD_BYTES: usize = 6;
@@ -14,19 +14,16 @@ fn port_of(bytes: &[u8]) -> Option<Port> {
     if bytes[6] > 63 {
         return None;
     }
+    let mut lanes = [u16::from(bytes[3]); 8];
+    for (k, lane) in lanes[..CLASS].iter_mut().enumerate() {
+        *lane = word(bytes, 7 + 2 * k);
+    }
     Some(Port {
         state: *STATES.get(usize::from(bytes[0]))?,
         control: word(bytes, 1),
-        class: bytes[3],
         demand: word(bytes, 4),
         latches: bytes[6],
-        detection: word(bytes, 7),
-        backoff: word(bytes, 9),
-        error_delay: word(bytes, 11),
-        power_on: word(bytes, 13),
-        limiting: word(bytes, 15),
-        overload: word(bytes, 17),
-        no_load: word(bytes, 19),
+        lanes,
     })
 }
 
@@ -50,19 +47,10 @@ pub fn store(table: &Table) -> Vec<u8> {
     for port in &table.ports {
         image.push(port.state as u8);
         image.extend_from_slice(&port.control.to_be_bytes());
-        image.push(port.class);
+        image.push(port.lanes[CLASS] as u8);
         image.extend_from_slice(&port.demand.to_be_bytes());
         image.push(port.latches);
-        let counts = [
-            port.detection,
-            port.backoff,
-            port.error_delay,
-            port.power_on,
-            port.limiting,
-            port.overload,
-            port.no_load,
-        ];
-        image.extend(counts.iter().flat_map(|count| count.to_be_bytes()));
+        image.extend(port.lanes[..CLASS].iter().flat_map(|count| count.to_be_bytes()));
     }
     image
 }

@@ -6,12 +6,12 @@ use super::tick::tick;
 use super::tlv::{self, Fields};
 
 fn with(sum: u64, n: u64) -> u64 {
-    sum.rotate_left(1) ^ n
+    sum.rotate_left(1).wrapping_add(n)
 }
 
 pub fn closed(sum: u64, answer: Closed) -> u64 {
     match answer {
-        Closed::Ports(a, b, n) => with(with(sum, a), b) ^ u64::from(n),
+        Closed::Ports(a, b, n) => with(with(with(sum, a), b), u64::from(n)),
         Closed::Refused(k) => with(sum, u64::from(k)),
     }
 }

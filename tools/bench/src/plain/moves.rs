@@ -1,8 +1,9 @@
 //! The ports' moves, in place. Most ticks only move counters: those have an arm each, and everything else one function.
 
 use super::form::{
-    word, Port, State, ABSENT, CLASS_DONE, DETECTION_DONE, INVALID, LIMITING, LOAD, OVERLOAD,
-    OVERLOADED, SAMPLE_BYTES, SETTLED, SHORT, VALID,
+    word, Port, State, ABSENT, BACKOFF, CLASS, CLASS_DONE, DETECTION, DETECTION_DONE, ERROR_DELAY,
+    INVALID, LIMITED, LIMITING, LOAD, NO_LOAD, OVER, OVERLOAD, OVERLOADED, POWER_ON, SAMPLE_BYTES,
+    SETTLED, SHORT, VALID,
 };
 
 const MOST: u16 = 2_000;
@@ -28,17 +29,16 @@ pub fn all(ports: &mut [Port], block: &[u8]) -> Moved {
     let mut bit = 1u64;
     for (port, sample) in ports.iter_mut().zip(block.chunks_exact(SAMPLE_BYTES)) {
         let Ok(sample) = sample.try_into() else { continue };
-        if port.control & ALTERNATIVE_A != 0 {
-            moved.on_a |= bit;
-        }
         match one(port, sample) {
             Claim::Nothing => {}
             Claim::Closed => {
                 moved.closed |= bit;
+                moved.on_a |= if port.control & ALTERNATIVE_A != 0 { bit } else { 0 };
                 moved.claimed += u32::from(port.demand);
             }
             Claim::Asks => {
                 moved.asking |= bit;
+                moved.on_a |= if port.control & ALTERNATIVE_A != 0 { bit } else { 0 };
                 moved.claimed += u32::from(port.demand);
             }
         }
@@ -65,7 +65,7 @@ fn run(count: u16, seen: bool) -> u16 {
     }
 }
 
-/// The move in one tick. No counter of an arm here can pass 2,000: it goes on below its limit.
+/// The move in one tick. A counter that goes on below its limit here cannot pass 2,000.
 #[inline(always)]
 fn one(port: &mut Port, sample: &Sample) -> Claim {
     let flags = u16::from(sample[13]);
@@ -75,61 +75,78 @@ fn one(port: &mut Port, sample: &Sample) -> Claim {
         port.demand = 0;
         return Claim::Nothing;
     }
-    match port.state {
-        State::PowerOn if enable == ENABLED => {
-            let limiting = run(port.limiting, flags & LIMITING != 0);
-            let overload = run(port.overload, flags & OVERLOAD != 0);
-            let no_load = run(port.no_load, flags & LOAD == 0);
-            if (limiting < 60) & (overload < 60) & (no_load < 320) {
-                port.limiting = limiting;
-                port.overload = overload;
-                port.no_load = no_load;
-                return Claim::Closed;
-            }
+    let (enabled, forced) = (enable == ENABLED, enable == FORCED);
+    let undone = |flag: u16| enabled && flags & flag == 0;
+    let state = port.state;
+    match state {
+        State::PowerOn if enabled && stays_on(port, flags) => Claim::Closed,
+        State::PowerUp if undone(SETTLED) && stays_up(port, flags) => Claim::Closed,
+        State::TestMode if forced && stays_in_test(port, flags) => Claim::Closed,
+        State::Detecting if undone(DETECTION_DONE) && goes_on(port, DETECTION, 500) => {
+            Claim::Nothing
         }
-        State::Detecting if enable == ENABLED => {
-            if (port.detection < 499) & (flags & DETECTION_DONE == 0) {
-                port.detection += 1;
-                return Claim::Nothing;
-            }
-        }
-        State::PowerUp if enable == ENABLED => {
-            let limiting = run(port.limiting, flags & LIMITING != 0);
-            let overload = run(port.overload, flags & OVERLOAD != 0);
-            if (limiting < 60) & (overload < 60) & (port.power_on < 399) & (flags & SETTLED == 0) {
-                port.limiting = limiting;
-                port.overload = overload;
-                port.power_on += 1;
-                return Claim::Closed;
-            }
-        }
-        State::TestMode if enable == FORCED => {
-            let limiting = run(port.limiting, flags & LIMITING != 0);
-            let overload = run(port.overload, flags & OVERLOAD != 0);
-            if (limiting < 60) & (overload < 60) {
-                port.limiting = limiting;
-                port.overload = overload;
-                return Claim::Closed;
-            }
-        }
-        State::Classifying if enable == ENABLED => {
-            if (port.power_on < 399) & (flags & CLASS_DONE == 0) {
-                port.power_on += 1;
-                return Claim::Nothing;
-            }
-        }
-        State::Backoff if port.backoff < 1_999 => {
-            port.backoff += 1;
-            return Claim::Nothing;
-        }
-        State::ErrorDelay if port.error_delay < 749 => {
-            port.error_delay += 1;
-            return Claim::Nothing;
-        }
-        State::TestError if enable == FORCED => return Claim::Nothing,
-        _ => {}
+        State::Classifying if undone(CLASS_DONE) && goes_on(port, POWER_ON, 400) => Claim::Nothing,
+        State::Backoff if goes_on(port, BACKOFF, 2_000) => Claim::Nothing,
+        State::ErrorDelay if goes_on(port, ERROR_DELAY, 750) => Claim::Nothing,
+        State::TestError if forced => Claim::Nothing,
+        _ => other(port, enable, sample, flags),
     }
-    other(port, enable, sample, flags)
+}
+
+/// Counts, unless that reaches the limit: then nothing is changed, as in all three below.
+#[inline(always)]
+fn goes_on(port: &mut Port, counter: usize, limit: u16) -> bool {
+    let goes = port.lanes[counter] + 1 < limit;
+    if goes {
+        port.lanes[counter] += 1;
+    }
+    goes
+}
+
+#[inline(always)]
+fn stays_on(port: &mut Port, flags: u16) -> bool {
+    // Nearly every port that is on: nothing to count.
+    if flags & (LIMITING | OVERLOAD | LOAD) == LOAD {
+        port.lanes[LIMITED] = 0;
+        port.lanes[OVER] = 0;
+        port.lanes[NO_LOAD] = 0;
+        return true;
+    }
+    let limited = run(port.lanes[LIMITED], flags & LIMITING != 0);
+    let over = run(port.lanes[OVER], flags & OVERLOAD != 0);
+    let no_load = run(port.lanes[NO_LOAD], flags & LOAD == 0);
+    let stays = (limited < 60) & (over < 60) & (no_load < 320);
+    if stays {
+        port.lanes[LIMITED] = limited;
+        port.lanes[OVER] = over;
+        port.lanes[NO_LOAD] = no_load;
+    }
+    stays
+}
+
+#[inline(always)]
+fn stays_up(port: &mut Port, flags: u16) -> bool {
+    let limited = run(port.lanes[LIMITED], flags & LIMITING != 0);
+    let over = run(port.lanes[OVER], flags & OVERLOAD != 0);
+    let stays = (limited < 60) & (over < 60) & (port.lanes[POWER_ON] < 399);
+    if stays {
+        port.lanes[LIMITED] = limited;
+        port.lanes[OVER] = over;
+        port.lanes[POWER_ON] += 1;
+    }
+    stays
+}
+
+#[inline(always)]
+fn stays_in_test(port: &mut Port, flags: u16) -> bool {
+    let limited = run(port.lanes[LIMITED], flags & LIMITING != 0);
+    let over = run(port.lanes[OVER], flags & OVERLOAD != 0);
+    let stays = (limited < 60) & (over < 60);
+    if stays {
+        port.lanes[LIMITED] = limited;
+        port.lanes[OVER] = over;
+    }
+    stays
 }
 
 /// "adds one each tick but stops at 2,000".
@@ -151,6 +168,7 @@ fn to_idle(port: &mut Port) -> Claim {
 }
 
 /// Every move of an enabled port, the common ones too.
+#[cold]
 #[inline(never)]
 fn other(port: &mut Port, enable: u16, sample: &Sample, flags: u16) -> Claim {
     let forced = enable == FORCED;
@@ -165,13 +183,13 @@ fn other(port: &mut Port, enable: u16, sample: &Sample, flags: u16) -> Claim {
         }
         State::Idle => {
             port.state = State::Detecting;
-            port.class = 0;
-            port.detection = 0;
+            port.lanes[CLASS] = 0;
+            port.lanes[DETECTION] = 0;
             Claim::Nothing
         }
         State::Detecting => detecting(port, sample, flags),
-        State::Backoff if count(&mut port.backoff) >= 2_000 => to_idle(port),
-        State::ErrorDelay if count(&mut port.error_delay) >= 750 => to_idle(port),
+        State::Backoff if count(&mut port.lanes[BACKOFF]) >= 2_000 => to_idle(port),
+        State::ErrorDelay if count(&mut port.lanes[ERROR_DELAY]) >= 750 => to_idle(port),
         State::Backoff | State::ErrorDelay => Claim::Nothing,
         State::Classifying => classifying(port, sample, flags),
         State::PowerUp | State::PowerOn => powered(port, flags),
@@ -182,7 +200,7 @@ fn other(port: &mut Port, enable: u16, sample: &Sample, flags: u16) -> Claim {
 }
 
 fn detecting(port: &mut Port, sample: &Sample, flags: u16) -> Claim {
-    if count(&mut port.detection) >= 500 {
+    if count(&mut port.lanes[DETECTION]) >= 500 {
         return to_idle(port);
     }
     if flags & DETECTION_DONE == 0 {
@@ -192,12 +210,12 @@ fn detecting(port: &mut Port, sample: &Sample, flags: u16) -> Claim {
         Signature::Valid => {
             port.latches |= VALID;
             port.state = State::Classifying;
-            port.power_on = 0;
+            port.lanes[POWER_ON] = 0;
         }
         Signature::Invalid if port.control & ALTERNATIVE_A == 0 => {
             port.latches |= INVALID;
             port.state = State::Backoff;
-            port.backoff = 0;
+            port.lanes[BACKOFF] = 0;
         }
         _ => {
             port.latches |= INVALID;
@@ -242,7 +260,7 @@ fn class_of(current: u16) -> u8 {
 }
 
 fn classifying(port: &mut Port, sample: &Sample, flags: u16) -> Claim {
-    if count(&mut port.power_on) >= 400 {
+    if count(&mut port.lanes[POWER_ON]) >= 400 {
         return to_idle(port);
     }
     if flags & CLASS_DONE == 0 {
@@ -252,7 +270,7 @@ fn classifying(port: &mut Port, sample: &Sample, flags: u16) -> Claim {
     if class == 5 || (class == 4 && class_of(word(sample, 10)) != 4) {
         return to_idle(port);
     }
-    port.class = class;
+    port.lanes[CLASS] = u16::from(class);
     port.demand = BUDGETS[usize::from(class)];
     Claim::Asks
 }
@@ -269,14 +287,14 @@ fn tripped(port: &mut Port, limiting: u16, overload: u16) -> bool {
 
 /// "All counters of a state advance before any is compared".
 fn powered(port: &mut Port, flags: u16) -> Claim {
-    let limiting = count_if(&mut port.limiting, flags & LIMITING != 0);
-    let overload = count_if(&mut port.overload, flags & OVERLOAD != 0);
+    let limiting = count_if(&mut port.lanes[LIMITED], flags & LIMITING != 0);
+    let overload = count_if(&mut port.lanes[OVER], flags & OVERLOAD != 0);
     let starting = port.state == State::PowerUp;
-    let power_on = if starting { count(&mut port.power_on) } else { 0 };
-    let no_load = if starting { 0 } else { count_if(&mut port.no_load, flags & LOAD == 0) };
+    let power_on = if starting { count(&mut port.lanes[POWER_ON]) } else { 0 };
+    let no_load = if starting { 0 } else { count_if(&mut port.lanes[NO_LOAD], flags & LOAD == 0) };
     if tripped(port, limiting, overload) {
         port.state = State::ErrorDelay;
-        port.error_delay = 0;
+        port.lanes[ERROR_DELAY] = 0;
         return Claim::Nothing;
     }
     if power_on >= 400 {
@@ -288,15 +306,15 @@ fn powered(port: &mut Port, flags: u16) -> Claim {
     }
     if starting && flags & SETTLED != 0 {
         port.state = State::PowerOn;
-        port.no_load = 0;
+        port.lanes[NO_LOAD] = 0;
     }
     Claim::Closed
 }
 
 /// The counts run in the tick that leaves for IDLE too.
 fn testing(port: &mut Port, flags: u16, forced: bool) -> Claim {
-    let limiting = count_if(&mut port.limiting, flags & LIMITING != 0);
-    let overload = count_if(&mut port.overload, flags & OVERLOAD != 0);
+    let limiting = count_if(&mut port.lanes[LIMITED], flags & LIMITING != 0);
+    let overload = count_if(&mut port.lanes[OVER], flags & OVERLOAD != 0);
     if !forced {
         return to_idle(port);
     }

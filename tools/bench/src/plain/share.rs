@@ -1,13 +1,13 @@
 //! The sharing of the supply, without a sort: a claim's place in the ranking follows from the sums of the groups before its own.
 
-use super::form::{Port, State, DENIED};
+use super::form::{Port, State, DENIED, LIMITED, OVER};
 use super::moves::Moved;
 
 /// "An asker kept enters its state".
 fn enter(port: &mut Port) {
     port.state = if port.state == State::Idle { State::TestMode } else { State::PowerUp };
-    port.limiting = 0;
-    port.overload = 0;
+    port.lanes[LIMITED] = 0;
+    port.lanes[OVER] = 0;
 }
 
 /// Every claim fits. Answers the closed ports.
