@@ -3,6 +3,14 @@
 use std::hint::black_box;
 use std::time::Instant;
 
+/// Nanoseconds that this thread has had a processor: other work on the machine does not count, though it still warms and cools the
+/// caches. The system brings the figure up to date when the thread gives way. None where it has no such figure.
+fn on_the_processor() -> Option<f64> {
+    std::thread::yield_now();
+    let stat = std::fs::read_to_string("/proc/thread-self/schedstat").ok()?;
+    stat.split(' ').next()?.parse().ok()
+}
+
 /// Nanoseconds a call, over the rounds.
 pub struct Times {
     pub best: f64,
@@ -40,9 +48,12 @@ impl Pair {
 }
 
 fn timed<T>(calls: u64, run: &mut impl FnMut() -> T) -> (f64, T) {
+    let before = on_the_processor();
     let start = Instant::now();
     let answer = black_box(run());
-    (start.elapsed().as_nanos() as f64 / calls as f64, answer)
+    let passed = start.elapsed().as_nanos() as f64;
+    let used = on_the_processor().zip(before).map_or(passed, |(after, before)| after - before);
+    (used / calls as f64, answer)
 }
 
 /// Each round runs `calls` calls of both. None if what they answer differs.
