@@ -5,20 +5,7 @@
 //!     reference script SEED LINES [KIND]    makes a script for the console
 //!     reference count                       counts what a script meets
 
-mod corners;
-mod count;
-mod image;
-mod lines;
-mod port;
-mod random;
-mod reading;
-mod reasons;
-mod scripts;
-mod table;
-#[cfg(test)]
-mod tests;
-mod tlv;
-
+use reference::{count, lines, scripts};
 use std::io::{self, BufRead, BufReader, BufWriter, Read, Write};
 use std::process::ExitCode;
 

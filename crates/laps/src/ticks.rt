@@ -1,0 +1,79 @@
+// Ticks in a row, from a start table that comes back now and then.
+use crate::mix;
+use crate::records::next;
+use crate::records::word;
+use table::form::Table;
+use tlv::search::part;
+ghost use Prim.Native.Nat.{_≤_};
+
+// Where a lap of ticks came to: the block and the figure whose turn is next, and the checksum of all answers.
+pub struct Ran {
+    pub table: Table,
+    pub block: usize,
+    pub figure: usize,
+    pub sum: u64,
+}
+
+fn lap(from: Ran, blocks: &[u8], size: usize, figures: &[u8], ticks: u64) -> Ran {
+    let mut table = from.table;
+    let mut block = from.block;
+    let mut figure = from.figure;
+    let mut sum = from.sum;
+    let mut left = ticks;
+    while 0 < left {
+        let told = table::tick::tick(table, part(blocks, block, size), word(figures, figure));
+        let after = told.table;
+        let answer = told.answer;
+        table = after;
+        sum = mix::closed(sum, answer);
+        block = next(blocks, block, size);
+        figure = next(figures, figure, 2);
+        left -= 1;
+    }
+    Ran {
+        table,
+        block,
+        figure,
+        sum,
+    }
+}
+
+// The ticks of a lap after its first one, of those that are left then.
+fn more(restore: u64, left: u64) -> u64
+    ensures { λ r. ⌜ r ≤ left ⌝ }
+{
+    if restore == 0 {
+        return left;
+    }
+    if left < restore {
+        return left;
+    }
+    restore - 1
+}
+
+pub fn run(
+    start: Table,
+    blocks: &[u8],
+    size: usize,
+    figures: &[u8],
+    ticks: u64,
+    restore: u64,
+) -> Ran {
+    let mut ran = Ran {
+        table: start,
+        block: 0,
+        figure: 0,
+        sum: 0,
+    };
+    let mut left = ticks;
+    while 0 < left {
+        let rest = more(restore, left - 1);
+        let from = Ran {
+            table: start,
+            ..ran
+        };
+        ran = lap(from, blocks, size, figures, rest + 1);
+        left -= rest + 1;
+    }
+    ran
+}

@@ -1,0 +1,235 @@
+//! That the plain tick, the proved one and the reference compute the same; no time is taken.
+
+use crate::plain::form::{Closed, HIGHEST_SUPPLY, PLACES};
+use crate::plain::{image, laps};
+use crate::{frames, mixes, proved, ticked};
+use reference::lines::{parsed, Console, Line};
+use reference::random::Random;
+use reference::scripts::{self, Kind};
+use std::path::Path;
+
+const MIX_TICKS: u64 = 20_000;
+const RANDOM_TABLES: u64 = 20_000;
+const SCRIPT_LINES: u64 = 50_000;
+
+/// What a tick answers, as the checksum of the one answer, and the image that it leaves.
+type Outcome = (u64, Vec<u8>);
+
+fn by_plain(before: &[u8], block: &[u8], figure: u64) -> Result<Outcome, String> {
+    let table = image::load(before)
+        .ok_or("an image of the reference that the plain program does not take")?;
+    let (after, answer) = laps::one(&table, block, figure);
+    Ok((laps::closed(0, answer), image::store(&after)))
+}
+
+/// None for a figure that two bytes do not hold.
+fn by_proof(before: &[u8], block: &[u8], figure: u64) -> Option<Outcome> {
+    let figure = u16::try_from(figure).ok()?.to_be_bytes();
+    let mut after = before.to_vec();
+    let sum = proved::tick(&mut after, block, block.len(), &figure, 1, 0);
+    Some((sum, after))
+}
+
+fn by_reference(console: &mut Console, block: &[u8], figure: u64) -> Outcome {
+    let answer = match console.table.tick(figure, block) {
+        Ok(t) => Closed::Ports(t.mask_a, t.mask_b, t.closed),
+        Err(k) => Closed::Refused(k),
+    };
+    (laps::closed(0, answer), reference::image::written(&console.table))
+}
+
+/// One tick by all three.
+fn compared(console: &mut Console, block: &[u8], figure: u64) -> Result<u64, String> {
+    let before = reference::image::written(&console.table);
+    let plain = by_plain(&before, block, figure)?;
+    let proof = by_proof(&before, block, figure);
+    let wanted = by_reference(console, block, figure);
+    let case = || format!("image {before:02x?} block {block:02x?} figure {figure}");
+    if plain != wanted {
+        return Err(format!("the plain tick differs from the reference: {}", case()));
+    }
+    if proof.is_some_and(|proof| proof != plain) {
+        return Err(format!("the proved tick differs from the plain one: {}", case()));
+    }
+    Ok(plain.0)
+}
+
+fn kind(of: &str) -> Kind {
+    Kind::named(of).unwrap_or(Kind::Mixed)
+}
+
+/// The ticks of a script, on the table that each of them meets.
+fn script(seed: u64, name: &str) -> Result<(), String> {
+    let script = scripts::made(seed, SCRIPT_LINES, kind(name));
+    let mut console = Console::new();
+    let (mut lines, mut ticks) = (0u64, 0u64);
+    for line in script.split(|&byte| byte == b'\n') {
+        if let Some(Line::Tick(figure, block)) = parsed(line) {
+            compared(&mut console, &block, figure)?;
+            ticks += 1;
+        } else {
+            console.answer(line);
+        }
+        lines += 1;
+    }
+    println!("  script {name}, seed {seed}: {lines} lines, {ticks} ticks, no difference");
+    Ok(())
+}
+
+fn near(r: &mut Random, limits: &[u64]) -> u16 {
+    let limit = r.pick(limits);
+    r.around(limit) as u16
+}
+
+/// A port at the limits of the rules, that no call need have led to; seldom an ill-made one.
+fn port(r: &mut Random, ill: bool) -> Vec<u8> {
+    let counts = [0, 5, 59, 60, 319, 320, 399, 400, 499, 500, 749, 750, 1_999];
+    let mut words: Vec<u16> = (0..7).map(|_| near(r, &counts)).collect();
+    let mut control = r.below(3) | r.pick(&[1, 2]) << 2 | r.below(4) << 4;
+    let mut class = r.below(5);
+    let mut demand = r.pick(&[0, 40, 70, 154, 300]);
+    if ill {
+        let any = r.below(65_536);
+        match r.below(4) {
+            0 => words[r.below(7) as usize] = r.pick(&[2_001, 2_002, 0x7FFF, 0x8000, 0xFFFF]),
+            1 => control = r.pick(&[3, 7, 0, 1, 12, 13, 0x44, 0x8005, any]),
+            2 => class = r.between(5, 255),
+            _ => demand = r.pick(&[1, 2, 39, 41, 69, 153, 155, 299, 301, 65_535, any]),
+        }
+    }
+    let mut bytes = vec![r.below(10) as u8, (control >> 8) as u8, control as u8, class as u8];
+    bytes.extend([(demand >> 8) as u8, demand as u8, r.below(64) as u8]);
+    bytes.extend(words.iter().flat_map(|word| word.to_be_bytes()));
+    bytes
+}
+
+fn table(r: &mut Random, count: u16, ill: bool) -> Vec<u8> {
+    let supply: u16 =
+        if ill && r.chance(10) { r.between(60_001, 65_535) as u16 } else { r.below(60_001) as u16 };
+    let mut image = count.to_be_bytes().to_vec();
+    image.extend(u32::from(supply).to_be_bytes());
+    let bad = if ill { r.below(PLACES as u64) } else { PLACES as u64 };
+    for place in 0..PLACES as u64 {
+        // Past the count anything may stand.
+        let past = place >= u64::from(count) && r.chance(50);
+        image.extend(port(r, place == bad || past));
+    }
+    image
+}
+
+fn block(r: &mut Random, count: u16, reserved: bool) -> Vec<u8> {
+    let mut block = Vec::new();
+    let bad = if reserved { r.below(u64::from(count) + 1) } else { u64::MAX };
+    for place in 0..u64::from(count) {
+        let (v1, dv) = (near(r, &[2_800, 4_000, 10_000]), near(r, &[1_000, 1_900, 2_650, 5_000]));
+        let (i1, di) = (near(r, &[0, 100, 65_000]), near(r, &[0, 10, 100, 200]));
+        let mut flags = r.below(64) as u16;
+        if place == bad {
+            flags |= 1 << r.between(6, 15);
+        }
+        let classes = [0, 5_000, 5_001, 13_001, 21_001, 31_001, 45_000, 45_001, 65_535];
+        let words = [
+            v1,
+            v1.wrapping_add(dv),
+            i1,
+            i1.wrapping_add(di),
+            near(r, &classes),
+            near(r, &classes),
+            flags,
+        ];
+        block.extend(words.iter().flat_map(|word| word.to_be_bytes()));
+    }
+    block
+}
+
+/// A length that is not 14 bytes a port.
+fn cut(r: &mut Random, block: &mut Vec<u8>) {
+    let length = r.pick(&[
+        0,
+        1,
+        13,
+        14,
+        block.len().saturating_sub(1),
+        block.len() + 1,
+        14 * PLACES,
+        14 * PLACES + 14,
+    ]);
+    block.resize(length, 0);
+}
+
+fn figure(r: &mut Random) -> u64 {
+    match r.below(20) {
+        0 => r.between(u64::from(HIGHEST_SUPPLY) - 1, 65_535),
+        1 => r.pick(&[65_536, 1 << 32, u64::MAX]),
+        2..=9 => r.between(14_400, 60_000),
+        _ => r.below(5_000),
+    }
+}
+
+/// Tables from nowhere, ticked a few times each.
+fn random_tables() -> Result<(), String> {
+    let mut r = Random::new(13);
+    let mut refused = [0u64; 14];
+    let mut accepted = 0u64;
+    for _ in 0..RANDOM_TABLES {
+        let count = if r.chance(4) {
+            r.pick(&[0, 49, 256, 65_535])
+        } else {
+            r.between(1, PLACES as u64) as u16
+        };
+        let ill = r.chance(10);
+        let image = table(&mut r, count, ill);
+        let mut console = Console::new();
+        console.table = reference::image::read(&image).ok_or("a table from nowhere is no image")?;
+        for _ in 0..4 {
+            let reserved = r.chance(8);
+            let mut block = block(&mut r, count.min(49), reserved);
+            if r.chance(5) {
+                cut(&mut r, &mut block);
+            }
+            let told = compared(&mut console, &block, figure(&mut r))?;
+            match told {
+                1 | 3 | 4 | 13 => refused[told as usize] += 1,
+                _ => accepted += 1,
+            }
+        }
+    }
+    println!("  tables from nowhere: {accepted} ticks accepted, refused with 13, 1, 4, 3: {} {} {} {}, no difference", refused[13], refused[1], refused[4], refused[3]);
+    if [13, 1, 4, 3].iter().any(|&k| refused[k] == 0) {
+        return Err("a refusal that no table from nowhere met".to_string());
+    }
+    Ok(())
+}
+
+fn looks(root: &Path) -> Result<(), String> {
+    let stored = frames::stored(root);
+    for (name, records) in
+        [("sound PDUs", &stored.sound), ("refused PDUs", &stored.refused), ("TLVs", &stored.tlvs)]
+    {
+        let (bytes, size, number) = (&records.bytes, records.size, records.number);
+        if laps::find(bytes, size, number) != proved::find(bytes, size, number) {
+            return Err(format!("{name}: the two searches differ"));
+        }
+        if laps::read(bytes, size, number) != proved::read(bytes, size, number) {
+            return Err(format!("{name}: the two readers differ"));
+        }
+        println!("  {name}: {number} searched and read, no difference");
+    }
+    Ok(())
+}
+
+pub fn all(root: &Path) -> Result<(), String> {
+    println!("check: the plain program, the proved one and the reference");
+    for short in [false, true] {
+        let mix = mixes::mix(if short { "short of supply" } else { "every claim fits" }, 48, short);
+        ticked(&mix, MIX_TICKS, 1)?;
+        println!("  {}: {MIX_TICKS} ticks, no difference", mix.name);
+    }
+    random_tables()?;
+    for (seed, name) in (1..).zip(["walks", "limits", "illmade", "mixed"]) {
+        script(seed, name)?;
+    }
+    looks(root)?;
+    println!("check: no difference");
+    Ok(())
+}

@@ -1,0 +1,16 @@
+//! The port controller once more, written from document 01 and the console's
+//! line language alone; a library, so that other tools can ask it too.
+
+mod corners;
+pub mod count;
+pub mod image;
+pub mod lines;
+pub mod port;
+pub mod random;
+pub mod reading;
+mod reasons;
+pub mod scripts;
+pub mod table;
+#[cfg(test)]
+mod tests;
+pub mod tlv;
