@@ -1,5 +1,7 @@
+pub mod Claim
 pub mod Entry
 pub mod Form
+pub mod Quick
 pub mod Rules
 pub mod Settle
 pub mod Step

@@ -1,5 +1,6 @@
 -- Document 01, "The port's move in one tick": the rule of each state, paragraph by paragraph. `p` is the port, `q` the port after
 -- its counters have advanced: "All counters of a state advance before any is compared".
+use Prim.Native.Nat.{ℕ}
 use mathlib.Core.Bool.{Bool, true, false, cond, not}
 use lib.Dec.{leb}
 use Rattle.power.specs.declared.Power.{Power}
@@ -45,6 +46,29 @@ isB A = false
 isB B = true
 isB Both = false
 
+-- the limits of the counters: "at 500", "at 2,000", "at 750", "at 400" twice, "60 of limiting", "60 of overload", "320 consecutive
+-- ticks without load"; each "is compared "at or over""
+abbrev pub detectingEnds : ℕ → Bool
+detectingEnds n = leb 500 n
+
+abbrev pub backoffEnds : ℕ → Bool
+backoffEnds n = leb 2000 n
+
+abbrev pub errorDelayEnds : ℕ → Bool
+errorDelayEnds n = leb 750 n
+
+abbrev pub classifyingEnds : ℕ → Bool
+classifyingEnds n = leb 400 n
+
+abbrev pub powerUpEnds : ℕ → Bool
+powerUpEnds n = leb 400 n
+
+abbrev pub faultBy : ℕ → Bool
+faultBy n = leb 60 n
+
+abbrev pub loadAbsent : ℕ → Bool
+loadAbsent n = leb 320 n
+
 -- "IDLE: enable 01 to DETECTING, class set to 0; enable 10 asks for TEST_MODE, demand 154." The claim is the board's
 unfoldable pub idle : Power → Port → Moved
 idle claim p =
@@ -64,19 +88,19 @@ detected Open q = latching latchInvalid (enterIdle q)
 unfoldable pub detecting : Port → Reading → Moved
 detecting p r =
     let q = withCounts (detectionAt (up (p .counts .detection)) (p .counts)) p in
-    cond (leb 500 (q .counts .detection)) (quietly (enterIdle q)) (detected (r .detection) q)
+    cond (detectingEnds (q .counts .detection)) (quietly (enterIdle q)) (detected (r .detection) q)
 
 -- "BACKOFF (counter from entry): at 2,000 to IDLE."
 unfoldable pub backoff : Port → Moved
 backoff p =
     let q = withCounts (backoffAt (up (p .counts .backoff)) (p .counts)) p in
-    quietly (cond (leb 2000 (q .counts .backoff)) (enterIdle q) q)
+    quietly (cond (backoffEnds (q .counts .backoff)) (enterIdle q) q)
 
 -- "ERROR_DELAY (counter from entry): at 750 to IDLE."
 unfoldable pub errorDelay : Port → Moved
 errorDelay p =
     let q = withCounts (errorDelayAt (up (p .counts .«error_delay»)) (p .counts)) p in
-    quietly (cond (leb 750 (q .counts .«error_delay»)) (enterIdle q) q)
+    quietly (cond (errorDelayEnds (q .counts .«error_delay»)) (enterIdle q) q)
 
 -- "Else if class is done: failure to IDLE; a class sets class and demand, and asks for POWER_UP."
 unfoldable pub classed : Classing → Port → Moved
@@ -88,7 +112,7 @@ classed (Is k d) q = asking (withClass k (withDemand d q))
 unfoldable pub classifying : Port → Reading → Moved
 classifying p r =
     let q = withCounts (powerOnAt (up (p .counts .«power_on»)) (p .counts)) p in
-    cond (leb 400 (q .counts .«power_on»)) (quietly (enterIdle q)) (classed (r .class) q)
+    cond (classifyingEnds (q .counts .«power_on»)) (quietly (enterIdle q)) (classed (r .class) q)
 
 -- "consecutive ticks of limiting, and of overload, are counted"
 unfoldable pub stressed : Reading → Counts → Counts
@@ -97,13 +121,13 @@ stressed r c = limitingAt (during (r .limiting) (c .limiting)) (overloadAt (duri
 -- "60 of limiting latches 9, else 60 of overload latches 8", and the port goes where `fault` says; otherwise what `sound` says
 unfoldable pub watched : Port → Port → Moved → Moved
 watched q fault sound =
-    cond (leb 60 (q .counts .limiting)) (latching latchShort fault)
-    (cond (leb 60 (q .counts .overload)) (latching latchOverload fault)
+    cond (faultBy (q .counts .limiting)) (latching latchShort fault)
+    (cond (faultBy (q .counts .overload)) (latching latchOverload fault)
     sound)
 
 -- "in POWER_UP, the power-on counter runs on: at 400 to IDLE; else settled goes to POWER_ON."
 unfoldable pub risen : Bool → Port → Port
-risen settled q = cond (leb 400 (q .counts .«power_on»)) (enterIdle q) (cond settled (enterPowerOn q) q)
+risen settled q = cond (powerUpEnds (q .counts .«power_on»)) (enterIdle q) (cond settled (enterPowerOn q) q)
 
 unfoldable pub powerUp : Port → Reading → Moved
 powerUp p r =
@@ -115,7 +139,7 @@ unfoldable pub powerOn : Port → Reading → Moved
 powerOn p r =
     let q = withCounts (noLoadAt (during (not (r .load)) (p .counts .«no_load»)) (stressed r (p .counts))) p in
     watched q (enterErrorDelay q)
-    (cond (leb 320 (q .counts .«no_load»)) (latching latchAbsent (enterIdle q)) (quietly q))
+    (cond (loadAbsent (q .counts .«no_load»)) (latching latchAbsent (enterIdle q)) (quietly q))
 
 -- "TEST_MODE: enable not 10 to IDLE; else the same two counts, from its own entry, at 60 latch as above (limiting looked at
 -- first) and go to TEST_ERROR."

@@ -27,6 +27,21 @@ ghost use mathlib.Core.Path.{_≡_};
 ghost use Rattle.port.specs.Form.{latchValid, latchInvalid, latchShort, latchOverload, latchAbsent};
 ghost use Rattle.port.specs.Rules.{isOn, isForced, isB, idle, detected, detecting, backoff, errorDelay, classed, classifying, stressed, watched, risen, powerUp, powerOn, testMode, testError};
 
+// The tick in which a state that waits is left, and the consecutive ticks that are a fault or a load gone.
+pub const DETECTING_ENDS: u16 = 500;
+
+pub const BACKOFF_ENDS: u16 = 2_000;
+
+pub const ERROR_DELAY_ENDS: u16 = 750;
+
+pub const CLASSIFYING_ENDS: u16 = 400;
+
+pub const POWER_UP_ENDS: u16 = 400;
+
+pub const FAULT: u16 = 60;
+
+pub const LOAD_ABSENT: u16 = 320;
+
 const VALID: Latches = Latches {
     valid: true,
     ..Latches::NONE
@@ -52,7 +67,7 @@ const ABSENT: Latches = Latches {
     ..Latches::NONE
 };
 
-fn is_on(enable: Enable) -> bool
+pub fn is_on(enable: Enable) -> bool
     ensures { λ r. ⌜ r ≡ isOn enable ⌝ }
 {
     match enable {
@@ -130,7 +145,7 @@ pub fn detecting(port: Port, reading: Reading) -> Moved
         ..before
     };
     let after = Port { counts, ..port };
-    if 500 <= ticks {
+    if DETECTING_ENDS <= ticks {
         return quietly(enter_idle(after));
     }
     let detection = reading.detection;
@@ -147,7 +162,7 @@ pub fn backoff(port: Port) -> Moved
         ..before
     };
     let after = Port { counts, ..port };
-    if 2_000 <= ticks {
+    if BACKOFF_ENDS <= ticks {
         return quietly(enter_idle(after));
     }
     quietly(after)
@@ -163,7 +178,7 @@ pub fn error_delay(port: Port) -> Moved
         ..before
     };
     let after = Port { counts, ..port };
-    if 750 <= ticks {
+    if ERROR_DELAY_ENDS <= ticks {
         return quietly(enter_idle(after));
     }
     quietly(after)
@@ -193,7 +208,7 @@ pub fn classifying(port: Port, reading: Reading) -> Moved
         ..before
     };
     let after = Port { counts, ..port };
-    if 400 <= ticks {
+    if CLASSIFYING_ENDS <= ticks {
         return quietly(enter_idle(after));
     }
     let class = reading.class;
@@ -216,10 +231,10 @@ fn stressed(reading: Reading, counts: Counts) -> Counts
 fn watched(port: Port, fault: Port, sound: Moved) -> Moved
     ensures { λ r. ⌜ r ≡ watched port fault sound ⌝ }
 {
-    if 60 <= port.counts.limiting {
+    if FAULT <= port.counts.limiting {
         return latching(SHORT, fault);
     }
-    if 60 <= port.counts.overload {
+    if FAULT <= port.counts.overload {
         return latching(OVERLOAD, fault);
     }
     sound
@@ -229,7 +244,7 @@ fn watched(port: Port, fault: Port, sound: Moved) -> Moved
 fn risen(settled: bool, port: Port) -> Port
     ensures { λ r. ⌜ r ≡ risen settled port ⌝ }
 {
-    if 400 <= port.counts.power_on {
+    if POWER_UP_ENDS <= port.counts.power_on {
         return enter_idle(port);
     }
     if settled {
@@ -268,7 +283,7 @@ pub fn power_on(port: Port, reading: Reading) -> Moved
     };
     let after = Port { counts, ..port };
     let fault = enter_error_delay(after);
-    if 320 <= ticks {
+    if LOAD_ABSENT <= ticks {
         return watched(after, fault, latching(ABSENT, enter_idle(after)));
     }
     watched(after, fault, quietly(after))

@@ -13,7 +13,8 @@ use words::status::Latches;
 ghost use mathlib.Core.Path.{_≡_};
 ghost use Prim.Native.Nat.{_<_};
 ghost use mathlib.Core.Bool.{_&&_};
-ghost use Rattle.port.specs.Settle.{closed, urgency, rank, granted, inTest, shed, settled};
+ghost use Rattle.port.specs.Claim.{rankIn, settledAs};
+ghost use Rattle.port.specs.Settle.{closed, urgency, granted, inTest, shed};
 
 const DENIED: Latches = Latches {
     denied: true,
@@ -61,16 +62,14 @@ fn holds(before: State, now: State) -> bool
 }
 
 // The rank of a port's claim, 0 the first; 6 for a port that claims nothing.
-pub fn rank_of(before: State, moved: Moved) -> u8
-    ensures { λ r. ⌜ r ≡ rank before moved ⌝ }
+pub fn rank_in(before: State, now: State, control: u16, asks: bool) -> u8
+    ensures { λ r. ⌜ r ≡ rankIn before now control asks ⌝ }
 {
-    let port = moved.port;
-    let urgency = urgency_of(priority_of(port.control));
-    let now = port.state;
+    let urgency = urgency_of(priority_of(control));
     if holds(before, now) {
         return urgency;
     }
-    if moved.asks {
+    if asks {
         return 3 + urgency;
     }
     6
@@ -120,11 +119,10 @@ fn shed_port(port: Port) -> Moved
     latching(DENIED, enter_idle(port))
 }
 
-// The port after the sharing, by the rank of its claim and whether that was kept.
-pub fn settled_port(rank: u8, kept: bool, moved: Moved) -> Port
-    ensures { λ r. ⌜ r ≡ settled rank kept moved ⌝ }
+// The port after the sharing, by the rank of its claim and whether that was kept. The rank tells who asked.
+pub fn settled_port(rank: u8, kept: bool, port: Port) -> Port
+    ensures { λ r. ⌜ r ≡ settledAs rank kept port ⌝ }
 {
-    let port = moved.port;
     if 6 <= rank {
         return port;
     }
@@ -132,7 +130,7 @@ pub fn settled_port(rank: u8, kept: bool, moved: Moved) -> Port
         let out = shed_port(port);
         return out.port;
     }
-    if moved.asks {
+    if 3 <= rank {
         let state = port.state;
         return granted_in(state, port);
     }

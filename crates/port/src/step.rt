@@ -15,7 +15,7 @@ ghost use mathlib.Core.Bool.{_&&_};
 ghost use Rattle.port.specs.Rules.{isOff, isForced};
 ghost use Rattle.port.specs.Step.{givesWay, byState, step};
 
-fn is_off(enable: Enable) -> bool
+pub fn is_off(enable: Enable) -> bool
     ensures { λ r. ⌜ r ≡ isOff enable ⌝ }
 {
     match enable {

@@ -1,51 +1,96 @@
 -- The passes of a tick, one after the other, are the tick: at each place below the count the moved port settles by the claim that
--- was kept or shed, and what stands past the count is as it was.
+-- was kept or shed, and what stands past the count is as it was. Where no port asks and all claims fit, the moves alone are the tick.
 -- Assumes nothing.
 use Prim.Native.Nat.{ℕ, _<_, _≤_}
-use mathlib.Core.Path.{_≡_, refl, sym, _∙_, ap}
-use mathlib.Core.Bool.{Bool, true, false, cond}
+use mathlib.Core.Path.{_≡_, refl, sym, _∙_, ap, ap₂}
+use mathlib.Core.Bool.{Bool, true, false, cond, not}
 use mathlib.Core.List.{List}
 use mathlib.Core.Logic.{⊎-elim}
-use lib.Dec.{ltb}
+use lib.Dec.{ltb, leb}
 use lib.ListN.{getD}
-use borrow.Author.Tests.{lt-ltb, le-ltb}
+use borrow.Author.Tests.{lt-ltb, le-ltb, le-leb, lt-leb, not-true}
+use Rattle.lists.specs.Every.{every, every-at}
 use Rattle.lists.specs.Places.{tabulate, getD-tabulate, tabulate-cong, side}
+use Rattle.power.specs.Power.{zeroPower}
 use Rattle.power.specs.declared.Power.{Power}
-use Rattle.port.specs.Settle.{settled}
+use Rattle.port.specs.Claim.{settledAs, settled-as}
+use Rattle.port.specs.Settle.{rank, settled}
 use Rattle.port.specs.declared.form.Port.{Port}
 use Rattle.share.specs.Given.{rankOf, demandOf, claimsOf, claims-of}
-use Rattle.share.specs.Share.{keeps}
+use Rattle.share.specs.Laws.{all-keep}
+use Rattle.share.specs.Share.{claims, keeps, claimedSum}
 use Rattle.table.specs.declared.form.Table.{Table}
-use Rattle.table.specs.Form.{portAt}
-use Rattle.table.specs.Passes.{noMove, movesOf, settledAll}
+use Rattle.table.specs.Form.{noPort, portAt}
+use Rattle.table.specs.Passes.{movedTable, movesOf, demandsOf, settledAll}
 use Rattle.table.specs.Tick.{movedAt, rankAt, claimAt, keptAt, portAfter, tableAfter}
 
--- the places that the sharing keeps
-abbrev pub keptAll : Table → List ℕ → Power → List Bool
-keptAll t block supply = tabulate 48 (keeps 48 (rankOf (movesOf t block .claims)) (demandOf (movesOf t block .claims)) (supply .0))
+module _ (t : Table) (block : List ℕ) where
+  -- the demands of the moved table are what the places claim
+  pub demands-are : demandsOf (movedTable t block) ≡ tabulate 48 (claimAt t block)
+  unfolding demandsOf movedTable claimAt portAt
+  demands-are =
+      tabulate-cong 48 _ (claimAt t block)
+      (λ p l. ap (λ (x : Port). cond (ltb p (t .count)) (x .demand) zeroPower) (getD-tabulate 48 _ noPort p l) ∙ chosen p (ltb p (t .count)))
+    where
+      chosen : (p : ℕ) (b : Bool) → cond b (cond b (movedAt t block p .port) (portAt t p) .demand) zeroPower ≡ cond b (movedAt t block p .port .demand) zeroPower
+      chosen p true = refl
+      chosen p false = refl
 
-module _ (t : Table) (block : List ℕ) (supply : Power) (p : ℕ) (l : p < 48) where
-  rank-is : rankOf (movesOf t block .claims) p ≡ rankAt t block p
-  unfolding rankOf movesOf claimsOf
-  rank-is = getD-tabulate 48 (rankAt t block) 0 p l
+  module _ (supply : Power) where
+    -- the places that the sharing keeps
+    abbrev pub keptAll : List Bool
+    keptAll = tabulate 48 (keeps 48 (rankOf (claimsOf (rankAt t block) (claimAt t block))) (demandOf (claimsOf (rankAt t block) (claimAt t block))) (supply .0))
 
-  kept-is : getD (keptAll t block supply) p false ≡ keptAt t block supply p
-  unfolding keptAt movesOf
-  kept-is = getD-tabulate 48 _ false p l ∙ claims-of (rankAt t block) (claimAt t block) (supply .0) p l
+    module _ (p : ℕ) (l : p < 48) where
+      moved-here : portAt (movedTable t block) p ≡ cond (ltb p (t .count)) (movedAt t block p .port) (portAt t p)
+      unfolding movedTable portAt
+      moved-here = getD-tabulate 48 _ noPort p l
 
-  moved-is : p < t .count → getD (movesOf t block .moved) p noMove ≡ movedAt t block p
-  unfolding movesOf
-  moved-is h = getD-tabulate 48 _ noMove p l ∙ simp (lt-ltb p (t .count) h)
+      kept-is : getD keptAll p false ≡ keptAt t block supply p
+      unfolding keptAt
+      kept-is = getD-tabulate 48 _ false p l ∙ claims-of (rankAt t block) (claimAt t block) (supply .0) p l
 
-  place-is : cond (ltb p (t .count)) (settled (rankOf (movesOf t block .claims) p) (getD (keptAll t block supply) p false) (getD (movesOf t block .moved) p noMove)) (portAt t p) ≡ portAfter t block supply p
-  unfolding portAfter
-  place-is =
-      ⊎-elim
-      (λ (h : p < t .count). simp (lt-ltb p (t .count) h, rank-is, kept-is, moved-is h))
-      (λ (h : t .count ≤ p). simp (le-ltb p (t .count) h))
-      (side p (t .count))
+      rank-below : p < t .count → rankAt t block p ≡ rank (portAt t p .state) (movedAt t block p)
+      unfolding rankAt
+      rank-below h = simp (lt-ltb p (t .count) h)
 
-pub settled-all-is : (t : Table) (block : List ℕ) (supply : Power) → settledAll t (movesOf t block) (keptAll t block supply) supply ≡ tableAfter t block supply
-unfolding settledAll tableAfter
-settled-all-is t block supply =
-    λ k. record { ports = tabulate-cong 48 _ (portAfter t block supply) (λ p l. place-is t block supply p l) k; count = t .count; supply = supply }
+      -- a place below the count settles as the definition says
+      below : p < t .count → settledAs (rankAt t block p) (keptAt t block supply p) (movedAt t block p .port) ≡ settled (rankAt t block p) (keptAt t block supply p) (movedAt t block p)
+      below h = rw (rank-below h) (settled-as (portAt t p .state) (movedAt t block p) (keptAt t block supply p))
+
+      place-is : cond (ltb p (t .count)) (settledAs (getD (tabulate 48 (rankAt t block)) p 0) (getD keptAll p false) (portAt (movedTable t block) p)) (portAt (movedTable t block) p) ≡ portAfter t block supply p
+      unfolding portAfter
+      place-is =
+          ⊎-elim
+          (λ (h : p < t .count). simp (moved-here, kept-is, getD-tabulate 48 (rankAt t block) 0 p l, lt-ltb p (t .count) h) (below h))
+          (λ (h : t .count ≤ p). simp (moved-here, le-ltb p (t .count) h))
+          (side p (t .count))
+
+      -- a port that does not ask, where all claims fit, is as its move left it
+      quiet-place : movedAt t block p .asks ≡ false → claimedSum 48 (rankAt t block) (λ q. claimAt t block q .0) ≤ supply .0 → settled (rankAt t block p) (keptAt t block supply p) (movedAt t block p) ≡ movedAt t block p .port
+      unfolding settled keptAt claims
+      quiet-place a f =
+          ⊎-elim
+          (λ (h : rankAt t block p < 6). simp (lt-leb 6 (rankAt t block p) h, all-keep 48 (rankAt t block) (λ q. claimAt t block q .0) (supply .0) p f, lt-ltb (rankAt t block p) 6 h, a))
+          (λ (h : 6 ≤ rankAt t block p). simp (le-leb 6 (rankAt t block p) h))
+          (side (rankAt t block p) 6)
+
+      quiet-is : every (t .count) (λ q. not (movedAt t block q .asks)) ≡ true → claimedSum 48 (rankAt t block) (λ q. claimAt t block q .0) ≤ supply .0
+          → cond (ltb p (t .count)) (movedAt t block p .port) (portAt t p) ≡ portAfter t block supply p
+      unfolding portAfter
+      quiet-is q f =
+          ⊎-elim
+          (λ (h : p < t .count). simp (lt-ltb p (t .count) h) (sym (quiet-place (not-true (movedAt t block p .asks) (every-at (t .count) (λ q. not (movedAt t block q .asks)) q p h)) f)))
+          (λ (h : t .count ≤ p). simp (le-ltb p (t .count) h))
+          (side p (t .count))
+
+    pub settled-all-is : settledAll (movedTable t block) (tabulate 48 (rankAt t block)) keptAll supply ≡ tableAfter t block supply
+    unfolding settledAll tableAfter movedTable
+    settled-all-is =
+        λ k. record { ports = tabulate-cong 48 _ (portAfter t block supply) (λ p l. place-is p l) k; count = t .count; supply = supply }
+
+    pub quiet-all-is : every (t .count) (λ q. not (movedAt t block q .asks)) ≡ true → claimedSum 48 (rankAt t block) (λ q. claimAt t block q .0) ≤ supply .0
+        → record { ports = movedTable t block .ports; count = t .count; supply = supply } ≡ tableAfter t block supply
+    unfolding tableAfter movedTable
+    quiet-all-is q f =
+        λ k. record { ports = tabulate-cong 48 _ (portAfter t block supply) (λ p l. quiet-is p l q f) k; count = t .count; supply = supply }

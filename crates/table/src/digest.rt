@@ -2,6 +2,7 @@
 use port::form::Classing;
 use port::form::Detection;
 use port::form::Reading;
+use port::quick::Signs;
 use reading::class::Class;
 use reading::class::budget;
 use reading::class::class_of_two;
@@ -13,6 +14,7 @@ ghost use mathlib.Core.Path.{_≡_};
 ghost use mathlib.Core.Bool.{cond};
 ghost use Rattle.reading.specs.Class.{classOfTwo};
 ghost use Rattle.reading.specs.Signature.{signatureOf};
+ghost use Rattle.port.specs.Quick.{signsOf};
 ghost use Rattle.table.specs.Digest.{detectionOf, classingOf, digest};
 
 fn detection_of(signature: Signature) -> Detection
@@ -50,6 +52,21 @@ fn classing(done: bool, s: Sample) -> Classing
         return classing_of(class_of_two(s.c1, s.c2));
     }
     Classing::NotDone
+}
+
+// What the flags show of the reading before it is worked out.
+pub fn signs_of(sample: Sample) -> Signs
+    ensures { λ r. ⌜ r ≡ signsOf (digest sample) ⌝ }
+{
+    let flags = flags_of(sample.flags);
+    Signs {
+        detected: flags.detection_done,
+        classed: flags.class_done,
+        settled: flags.settled,
+        limiting: flags.limiting,
+        overload: flags.overload,
+        load: flags.load,
+    }
 }
 
 pub fn digest_of(sample: Sample) -> Reading

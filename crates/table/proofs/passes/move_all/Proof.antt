@@ -1,81 +1,116 @@
--- `move_all` is `movesOf`: three arrays, each filled below i.
+-- `move_all` is `movesOf`: below i every port is moved in place, and its claim is ranked and added up.
 -- Assumes nothing.
-use mathlib.Core.Path.{_≡_, refl, sym, _∙_, ap}
+use mathlib.Core.Path.{_≡_, refl, sym, _∙_, ap, ap₂}
+use mathlib.Core.Bool.{Bool, true, false, cond, not, _&&_, and-true}
 use mathlib.Core.List.{List}
-use Prim.Native.Nat.{ℕ, _*_, _-_, _≤_}
-use native.Mathlib.Nat.{le-antisymm}
+use mathlib.Core.Logic.{⊎-elim}
+use Prim.Native.Nat.{ℕ, _+_, _*_, _-_, _≤_, _<_, _^_}
+use native.Mathlib.Nat.{le-refl, le-antisymm, not-suc-le-zero}
 use native.Mathlib.Omega.{arith}
-use lib.ListN.{replicate}
+use lib.Dec.{ltb}
+use lib.ListN.{length, getD, set, replicate, length-map}
+use borrow.Author.Count.{below-more}
 use borrow.Author.Needs.{needs}
 use denote.Ref.{now}
-use Rattle.lists.specs.Places.{tabulate, Filled, filled-none, filled-more, filled-over}
-use Rattle.power.specs.Power.{zeroPower}
+use Rattle.lists.specs.Every.{every, every-next}
+use Rattle.lists.specs.Places.{tabulate, Filled, filled-none, filled-more, filled-below, filled-over}
+use Rattle.lists.specs.Total.{total}
+use Rattle.power.specs.Power.{sumOf, forced}
 use Rattle.power.specs.declared.Power.{Power}
-use Rattle.port.specs.Form.{quietly}
+use Rattle.power.specs.declared.Sum.{Sum}
+use Rattle.reading.specs.Sample.{sampleAt}
+use Rattle.port.specs.Claim.{rankIn, rank-in}
+use Rattle.port.specs.Form.{withCounts, quietly}
+use Rattle.port.specs.Quick.{signsOf, quickly, quick-is-step}
 use Rattle.port.specs.Settle.{rank}
+use Rattle.port.specs.Step.{step}
+use Rattle.port.specs.declared.form.Counts.{Counts}
 use Rattle.port.specs.declared.form.Moved.{Moved}
-use Rattle.port.specs.declared.form.State.{State}
-use Rattle.share.specs.Given.{claimsOf}
-use Rattle.table.specs.Form.{portAt}
+use Rattle.port.specs.declared.form.Port.{Port}
+use Rattle.port.specs.declared.quick.Glance.{Glance}
+use Rattle.port.specs.declared.quick.Glance.the-variants.{Counted, Whole}
+use Rattle.share.specs.Passes.{added}
+use Rattle.share.specs.Share.{claimedSum, sumWhere}
+use Rattle.table.specs.declared.form.Table.{Table}
+use Rattle.table.specs.Digest.{digest}
+use Rattle.table.specs.Form.{noPort, portAt}
 use Rattle.table.specs.Tick.{movedAt, rankAt, claimAt}
-use Rattle.table.specs.Passes.{noMove, movesOf}
+use Rattle.table.specs.Passes.{movedTable, movesOf}
+use Rattle.table.proofs.Moving.{Moving, moving-none, moving-next, counted, stepped, moving-more, moving-is, moved-all}
 use Rattle.table.proofs.passes.move_all.Statement.{statement}
 use Rattle.table.proofs.passes.move_all.Tie as tie
 
 abbrev Inv-loop : tie.InvT-loop
-Inv-loop block table n all₀ ranks₀ demands₀ i₀ all ranks demands i =
-    (i ≤ n)
-    × Filled noMove (movedAt table block) (replicate 48 (quietly (portAt table 0))) i all
-    × Filled 0 (λ p. rank (portAt table p .state) (movedAt table block p)) (replicate 48 6) i ranks
-    × Filled zeroPower (λ p. movedAt table block p .port .demand) (replicate 48 zeroPower) i demands
+Inv-loop block n after₀ ranks₀ claimed₀ quiet₀ i₀ after ranks claimed quiet i = (i ≤ n) × Moving after₀ block i after ranks claimed quiet
 
 abbrev μ-loop : tie.MeasureT-loop
-μ-loop block table n all₀ ranks₀ demands₀ i₀ all ranks demands i = n - i
+μ-loop block n after₀ ranks₀ claimed₀ quiet₀ i₀ after ranks claimed quiet i = n - i
+
+long : (c : tie.Start Inv-loop μ-loop) → length (c .args .table .ports) ≡ 48
+long c = sym (length-map (c .args .table .ports) _) ∙ c .good .0 .1 .1 .0 .1 .0 .1
+
+loop-again : tie.Need-loop-again Inv-loop μ-loop
+loop-again c =
+    let s = c .before .before .before .before .before .before .before .before .before in
+    let t = s .args .table in
+    let b = now (s .args .block) in
+    let l = c .before .before .before .before .before .before .loop in
+    let before = getD (l .after .ports) (l .i) noPort in
+    let M = l .inv .1 in
+    let taken = c .before .before .before .before .before .loop-test .taken in
+    let place : l .i < 48 = omega (arith, taken, s .pre .0) in
+    let next : before ≡ portAt t (l .i) = moving-next t b (l .i) (l .after) (l .ranks) (l .claimed) (l .quiet) M in
+    ⊎-elim
+    (λ w. (
+      omega (arith, taken),
+      moving-is t b (l .i + 1) (c .match .after) _ (c .match .ranks) _ (c .match .claimed) _ (c .match .quiet) _ (w .8) (w .9) (w .10 ∙ w .7 .ensures .0) (w .11 ∙ sym (and-true (l .quiet)))
+          (moving-more t b (l .i) (l .after) (l .ranks) (l .claimed) (l .quiet) M place (long s) before (quietly (withCounts (w .1 .given .0 .0) before)) (w .4 .result) next
+          (counted t b (l .i) before (c .before .before .before .sample .result) (c .before .before .signs-of .result) (c .before .quick .result) (w .1 .given .0 .0) next (c .before .before .before .sample .ensures) (c .before .before .signs-of .ensures) (c .before .quick .ensures) (w .1 .given .1))
+          (w .4 .ensures) (w .7 .ensures .1)),
+    ))
+    (λ w. (
+      omega (arith, taken),
+      moving-is t b (l .i + 1) (c .match .after) _ (c .match .ranks) _ (c .match .claimed) _ (c .match .quiet) _ (w .9) (w .10) (w .11 ∙ w .7 .ensures .0) (w .12)
+          (moving-more t b (l .i) (l .after) (l .ranks) (l .claimed) (l .quiet) M place (long s) before (w .3 .result) (w .6 .result) next
+          (w .3 .ensures ∙ ap (step forced before) (w .2 .ensures) ∙ stepped t b (l .i) before (c .before .before .before .sample .result) next (c .before .before .before .sample .ensures))
+          (w .6 .ensures) (w .7 .ensures .1)),
+    ))
+    (c .match .came)
+
+returns : tie.Need-returns Inv-loop μ-loop
+returns c =
+    let s = c .before .before .before .before in
+    let l = c .before .loop in
+    moved-all (s .args .table) (now (s .args .block)) (l .i) (l .after) (l .ranks) (l .claimed) (l .quiet) (l .inv .1) (le-antisymm (l .inv .0) (c .loop-test .left)) (s .pre .0) (long s)
 
 pub move-all-spec : {M : Type 1} → statement M
-unfolding movesOf claimsOf rankAt claimAt portAt movedAt
 move-all-spec =
     tie.close
     (tie.spec
     Inv-loop
     μ-loop
     (λ c. search needs)
-    (λ c. search needs)
-    (λ c. (search needs, filled-none _ _ _, filled-none _ _ _, filled-none _ _ _))
+    (λ c. (search needs, moving-none _ _))
     (λ c. omega arith)
     (λ c. omega arith)
     (λ c κs. omega arith)
     (λ c κs. search needs)
+    (λ c κs. search needs)
+    (λ c. search needs)
+    (λ c κs. search needs)
     (λ c. omega arith)
     (λ c. omega arith)
     (λ c. omega arith)
-    (λ c. omega arith)
-    (λ c. omega arith)
-    (λ c. omega arith)
-    (λ c. omega arith)
-    (λ c.
-    let t = c .before .before .before .before .before .before .before .before .before .args .t1 in
-    let b = now (c .before .before .before .before .before .before .before .before .before .args .block) in
-    let l = c .before .before .before .before .before .before .loop in
-    let m = c .before .before .before .moved in (
-      omega arith,
-      filled-more noMove (movedAt t b) (replicate 48 (quietly (portAt t 0))) (l .i) (l .all) (m .result) (l .inv .1) (omega arith) (m .ensures),
-      filled-more 0 (λ p. rank (portAt t p .state) (movedAt t b p)) (replicate 48 6) (l .i) (l .ranks) (c .rank-of .result) (l .inv .2) (omega arith)
-          (c .rank-of .ensures ∙ ap (rank (portAt t (l .i) .state)) (m .ensures)),
-      filled-more zeroPower (λ p. movedAt t b p .port .demand) (replicate 48 zeroPower) (l .i) (l .demands) (m .result .port .demand) (l .inv .3) (omega arith)
-          (ap (λ (x : Moved). x .port .demand) (m .ensures)),
-    ))
-    (λ c.
-    let t = c .before .before .before .before .args .t1 in
-    let b = now (c .before .before .before .before .args .block) in
-    let l = c .before .loop in
-    let e : l .i ≡ t .count = le-antisymm (l .inv .0) (c .loop-test .left) in
-    λ k.
-    record {
-      moved = filled-over noMove (movedAt t b) (quietly (portAt t 0)) 48 (t .count) (l .all) (rw e at (l .inv .1)) k;
-      claims =
-          record {
-            ranks = filled-over 0 (λ p. rank (portAt t p .state) (movedAt t b p)) 6 48 (t .count) (l .ranks) (rw e at (l .inv .2)) k;
-            demands = filled-over zeroPower (λ p. movedAt t b p .port .demand) zeroPower 48 (t .count) (l .demands) (rw e at (l .inv .3)) k;
-          };
-    }))
+    (λ c κs. search needs)
+    (λ c. search needs)
+    (λ c κs. search needs)
+    (λ c κs. search needs)
+    (λ c κs. search needs)
+    (λ c. omega (arith, c .before .before .before .before .before .before .before .before .before .before .before .loop-test .taken, c .before .before .before .before .before .before .before .before .before .before .before .before .before .before .before .pre .0))
+    (λ c. omega (arith, c .before .before .before .before .before .before .before .before .before .before .before .loop-test .taken, c .before .before .before .before .before .before .before .before .before .before .before .before .before .before .before .pre .0))
+    (λ c. omega (arith, c .before .before .before .before .before .before .before .before .before .before .before .loop-test .taken, c .before .before .before .before .before .before .before .before .before .before .before .before .before .before .before .pre .0))
+    (λ c κs. search needs)
+    (λ c. search needs)
+    (λ c. search needs)
+    loop-again
+    returns)

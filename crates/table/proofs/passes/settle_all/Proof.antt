@@ -1,39 +1,37 @@
--- `settle_all` is `settledAll`: the ports below i have settled, in place.
+-- `settle_all` is `settledAll`: the ports below k have settled, in place.
 -- Assumes nothing.
 use mathlib.Core.Path.{_≡_, refl, sym, _∙_, ap}
 use mathlib.Core.Bool.{Bool, false}
 use mathlib.Core.List.{List}
 use Prim.Native.Nat.{ℕ, _-_, _≤_}
-use native.Mathlib.Nat.{le-antisymm}
+use native.Mathlib.Nat.{le-refl, le-antisymm}
 use native.Mathlib.Omega.{arith}
 use lib.ListN.{length, getD, length-map}
 use borrow.Author.Needs.{needs}
 use Rattle.lists.specs.Places.{tabulate, Filled, filled-none, filled-more, filled-below}
-use Rattle.port.specs.Settle.{settled}
+use Rattle.port.specs.Claim.{settledAs}
 use Rattle.port.specs.declared.form.Port.{Port}
-use Rattle.share.specs.Given.{rankOf}
-use Rattle.share.specs.declared.Claims.{Claims}
-use Rattle.table.specs.declared.passes.Moves.{Moves}
+use Rattle.table.specs.declared.form.Table.{Table}
 use Rattle.table.specs.Form.{noPort, portAt}
-use Rattle.table.specs.Passes.{noMove, settledAll}
+use Rattle.table.specs.Passes.{settledAll}
 use Rattle.table.proofs.passes.settle_all.Statement.{statement}
 use Rattle.table.proofs.passes.settle_all.Tie as tie
 
-abbrev settling : Moves → Claims → List Bool → ℕ → Port
-settling moves claims kept p = settled (rankOf claims p) (getD kept p false) (getD (moves .moved) p noMove)
+abbrev settling : Table → List ℕ → List Bool → ℕ → Port
+settling t ranks kept p = settledAs (getD ranks p 0) (getD kept p false) (portAt t p)
 
 abbrev Inv-loop : tie.InvT-loop
-Inv-loop supply moves kept n claims after₀ i₀ after i =
-    (i ≤ n) × Filled noPort (settling moves claims kept) (after₀ .ports) i (after .ports) × (after .count ≡ after₀ .count)
+Inv-loop supply ranks kept n after₀ k₀ after k =
+    (k ≤ n) × Filled noPort (settling after₀ ranks kept) (after₀ .ports) k (after .ports) × (after .count ≡ after₀ .count)
 
 abbrev μ-loop : tie.MeasureT-loop
-μ-loop supply moves kept n claims after₀ i₀ after i = n - i
+μ-loop supply ranks kept n after₀ k₀ after k = n - k
 
 long : (c : tie.Start Inv-loop μ-loop) → length (c .args .table .ports) ≡ 48
 long c = sym (length-map (c .args .table .ports) _) ∙ c .good .0 .1 .1 .0 .1 .0 .1
 
 pub settle-all-spec : {M : Type 1} → statement M
-unfolding settledAll portAt rankOf
+unfolding settledAll portAt
 settle-all-spec =
     tie.close
     (tie.spec
@@ -51,20 +49,20 @@ settle-all-spec =
     (λ c. omega arith)
     (λ c. omega arith)
     (λ c.
-    let s = c .before .before .before .before .before .before .before .args in
-    let l = c .before .before .before .before .loop in (
+    let s = c .before .before .before .before .before in
+    let l = c .before .before .before .loop in (
       omega arith,
-      filled-more noPort (settling (s .t2) (s .t2 .claims) (s .t3)) (s .table .ports) (l .k) (l .after .ports) (c .settled-port .result) (l .inv .1)
-          (omega (arith, long (c .before .before .before .before .before .before .before))) (c .settled-port .ensures),
+      filled-more noPort (settling (s .args .table) (s .args .t2) (s .args .t3)) (s .args .table .ports) (l .k) (l .after .ports) (c .settled-port .result) (l .inv .1)
+          (omega (arith, long s)) (c .settled-port .ensures ∙ ap (settledAs (getD (s .args .t2) (l .k) 0) (getD (s .args .t3) (l .k) false)) (l .inv .1 .left (l .k) (le-refl (l .k)))),
       l .inv .2,
     ))
     (λ c.
-    let s = c .before .before .before .before .args in
+    let s = c .before .before .before in
     let l = c .before .loop in
-    let e : l .k ≡ s .table .count = le-antisymm (l .inv .0) (c .loop-test .left) in
+    let e : l .k ≡ s .args .table .count = le-antisymm (l .inv .0) (c .loop-test .left) in
     λ k.
     record {
-      ports = filled-below noPort (settling (s .t2) (s .t2 .claims) (s .t3)) (s .table .ports) 48 (s .table .count) (l .after .ports) (long (c .before .before .before .before)) (rw e at (l .inv .1)) k;
+      ports = filled-below noPort (settling (s .args .table) (s .args .t2) (s .args .t3)) (s .args .table .ports) 48 (s .args .table .count) (l .after .ports) (long s) (rw e at (l .inv .1)) k;
       count = l .inv .2 k;
-      supply = s .supply;
+      supply = s .args .supply;
     }))

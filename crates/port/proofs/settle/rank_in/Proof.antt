@@ -1,14 +1,14 @@
--- `rank_of` is `rank`: closed before and still, or asking, or neither.
+-- `rank_in` is `rankIn`: closed before and still, or asking, or neither.
 -- Assumes nothing.
 use mathlib.Core.Path.{sym, _∙_}
 use borrow.Author.Needs.{needs}
-use Rattle.port.specs.Settle.{rank}
-use Rattle.port.proofs.settle.rank_of.Statement.{statement}
-use Rattle.port.proofs.settle.rank_of.Tie as tie
+use Rattle.port.specs.Claim.{rankIn}
+use Rattle.port.proofs.settle.rank_in.Statement.{statement}
+use Rattle.port.proofs.settle.rank_in.Tie as tie
 
-pub rank-of-spec : {M : Type 1} → statement M
-unfolding rank
-rank-of-spec =
+pub rank-in-spec : {M : Type 1} → statement M
+unfolding rankIn
+rank-in-spec =
     tie.close
     (tie.spec
     (λ c κs. search needs)

@@ -1,0 +1,12 @@
+-- `only` is `only`.
+-- Assumes nothing.
+use borrow.Author.Needs.{needs}
+use Rattle.port.proofs.quick.only.Statement.{statement}
+use Rattle.port.proofs.quick.only.Tie as tie
+
+pub only-spec : {M : Type 1} → statement M
+only-spec =
+    tie.close
+    (tie.spec
+    (λ c. simp (c .if1 .taken))
+    (λ c. simp (c .if1 .left)))
