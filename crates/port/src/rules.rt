@@ -25,7 +25,7 @@ use words::control::pair_of;
 use words::status::Latches;
 ghost use mathlib.Core.Path.{_≡_};
 ghost use Rattle.port.specs.Form.{latchValid, latchInvalid, latchShort, latchOverload, latchAbsent};
-ghost use Rattle.port.specs.Rules.{isOn, isForced, isB, idle, detected, detecting, backoff, errorDelay, classed, classifying, stressed, watched, risen, powerUp, powerOn, testMode, testError};
+ghost use Rattle.port.specs.Rules.{isOff, isOn, isForced, isB, idle, detected, detecting, backoff, errorDelay, classed, classifying, stressed, watched, risen, powerUp, powerOn, testMode, testError};
 
 // The tick in which a state that waits is left, and the consecutive ticks that are a fault or a load gone.
 pub const DETECTING_ENDS: u16 = 500;
@@ -66,6 +66,17 @@ const ABSENT: Latches = Latches {
     absent: true,
     ..Latches::NONE
 };
+
+pub fn is_off(enable: Enable) -> bool
+    ensures { λ r. ⌜ r ≡ isOff enable ⌝ }
+{
+    match enable {
+        Enable::Disabled => true,
+        Enable::Enabled => false,
+        Enable::Forced => false,
+        Enable::Reserved => false,
+    }
+}
 
 pub fn is_on(enable: Enable) -> bool
     ensures { λ r. ⌜ r ≡ isOn enable ⌝ }

@@ -62,11 +62,11 @@ fn holds(before: State, now: State) -> bool
 }
 
 // The rank of a port's claim, 0 the first; 6 for a port that claims nothing.
-pub fn rank_in(before: State, now: State, control: u16, asks: bool) -> u8
-    ensures { λ r. ⌜ r ≡ rankIn before now control asks ⌝ }
+pub fn rank_in(before: State, after: State, control: u16, asks: bool) -> u8
+    ensures { λ r. ⌜ r ≡ rankIn before after control asks ⌝ }
 {
     let urgency = urgency_of(priority_of(control));
-    if holds(before, now) {
+    if holds(before, after) {
         return urgency;
     }
     if asks {

@@ -12,19 +12,8 @@ use words::control::Enable;
 use words::control::enable_of;
 ghost use mathlib.Core.Path.{_≡_};
 ghost use mathlib.Core.Bool.{_&&_};
-ghost use Rattle.port.specs.Rules.{isOff, isForced};
+ghost use Rattle.port.specs.Rules.{isForced};
 ghost use Rattle.port.specs.Step.{givesWay, byState, step};
-
-pub fn is_off(enable: Enable) -> bool
-    ensures { λ r. ⌜ r ≡ isOff enable ⌝ }
-{
-    match enable {
-        Enable::Disabled => true,
-        Enable::Enabled => false,
-        Enable::Forced => false,
-        Enable::Reserved => false,
-    }
-}
 
 // Enable 10 sends these to IDLE first.
 fn gives_way(state: State) -> bool
@@ -75,7 +64,7 @@ pub fn step(claim: Power, port: Port, reading: Reading) -> Moved
     ensures { λ r. ⌜ r ≡ step claim port reading ⌝ }
 {
     let enable = enable_of(port.control);
-    if is_off(enable) {
+    if rules::is_off(enable) {
         return quietly(enter_disabled(port));
     }
     let state = port.state;

@@ -2,7 +2,7 @@
 -- words of the source up to names, with what a slice holds on entry by the slice's name and on exit by the name with a prime; `tools/public` reads the
 -- public functions off the sources, and fails if one is missing here or promises something else.
 -- Assumes nothing.
-use Prim.Native.Nat.{ℕ}
+use Prim.Native.Nat.{ℕ, _<_, _^_}
 use mathlib.Core.Path.{_≡_, refl, sym, _∙_, subst}
 use mathlib.Core.Bool.{Bool}
 use mathlib.Core.List.{List}
@@ -27,13 +27,18 @@ use Rattle.words.specs.declared.control.Pair.{Pair}
 use Rattle.words.specs.declared.control.Priority.{Priority}
 use Rattle.words.specs.declared.status.Condition.{Condition}
 use Rattle.words.specs.declared.status.Latches.{Latches}
-use Rattle.port.specs.Settle.{closed, rank, settled}
+use Rattle.port.specs.Claim.{rankIn, settledAs}
+use Rattle.port.specs.Quick.{quickly}
+use Rattle.port.specs.Settle.{closed}
 use Rattle.port.specs.Step.{step}
 use Rattle.port.specs.declared.form.Moved.{Moved}
 use Rattle.port.specs.declared.form.Port.{Port}
 use Rattle.port.specs.declared.form.Reading.{Reading}
 use Rattle.port.specs.declared.form.State.{State}
+use Rattle.port.specs.declared.quick.Glance.{Glance}
+use Rattle.port.specs.declared.quick.Signs.{Signs}
 use Rattle.share.specs.Given.{rankOf, demandOf}
+use Rattle.share.specs.Passes.{added}
 use Rattle.share.specs.Share.{keeps}
 use Rattle.share.specs.declared.Claims.{Claims}
 use Rattle.table.specs.Calls.{coldStart, writeControl, readStatus, request}
@@ -94,9 +99,11 @@ pub record Unique : Type 0 where
   pub words-status-join : (self more : Latches) → One Latches (λ r. r ≡ joinLatches self more)
   pub words-status-status-word : (l : Latches) (c : ℕ) (k : Condition) → One ℕ (λ r. r ≡ statusWord l c k)
   pub port-step-step : (claim : Power) (p : Port) (reading : Reading) → One Moved (λ r. r ≡ step claim p reading)
+  pub port-quick-quick : (port : Port) (signs : Signs) → One Glance (λ r. r ≡ quickly port signs)
   pub port-settle-is-closed : (state : State) → One Bool (λ r. r ≡ closed state)
-  pub port-settle-rank-of : (before : State) (moved : Moved) → One ℕ (λ r. r ≡ rank before moved)
-  pub port-settle-settled-port : (rank : ℕ) (kept : Bool) (moved : Moved) → One Port (λ r. r ≡ settled rank kept moved)
+  pub port-settle-rank-in : (before after : State) (control : ℕ) (asks : Bool) → One ℕ (λ r. r ≡ rankIn before after control asks)
+  pub port-settle-settled-port : (rank : ℕ) (kept : Bool) (port : Port) → One Port (λ r. r ≡ settledAs rank kept port)
+  pub share-with-claim : (sum : Sum) (rank : ℕ) (demand : Power) → One Sum (λ r. (r ≡ added sum rank demand) × (demand .0 < 2 ^ 16))
   pub share-kept : (claims : Claims) (s : Power) → One (List Bool) (λ r. r ≡ tabulate 48 (keeps 48 (rankOf claims) (demandOf claims) (s .0)))
   pub table-calls-cold-start : (ports : ℕ) → One Told (λ r. r ≡ coldStart ports)
   pub table-calls-write-control : (t : Table) (p word : ℕ) → One Told (λ r. r ≡ writeControl t p word)
@@ -150,9 +157,11 @@ unique =
       words-status-join = λ self more. one Latches (joinLatches self more);
       words-status-status-word = λ l c k. one ℕ (statusWord l c k);
       port-step-step = λ claim p reading. one Moved (step claim p reading);
+      port-quick-quick = λ port signs. one Glance (quickly port signs);
       port-settle-is-closed = λ state. one Bool (closed state);
-      port-settle-rank-of = λ before moved. one ℕ (rank before moved);
-      port-settle-settled-port = λ rank kept moved. one Port (settled rank kept moved);
+      port-settle-rank-in = λ before after control asks. one ℕ (rankIn before after control asks);
+      port-settle-settled-port = λ rank kept port. one Port (settledAs rank kept port);
+      share-with-claim = λ sum rank demand r s p q. p .0 ∙ sym (q .0);
       share-kept = λ claims s. one (List Bool) (tabulate 48 (keeps 48 (rankOf claims) (demandOf claims) (s .0)));
       table-calls-cold-start = λ ports. one Told (coldStart ports);
       table-calls-write-control = λ t p word. one Told (writeControl t p word);
