@@ -9,6 +9,7 @@ use native.Mathlib.Omega.{arith}
 use lib.Dec.{eqb, leb, ltb}
 use lib.ListN.{length, length-set, length-replicate}
 use Rattle.lists.specs.Places.{length-tabulate}
+use Rattle.lists.specs.Tests.{choice}
 use Rattle.power.specs.Power.{supplyOf, atMost, fits, sumOf}
 use Rattle.power.specs.declared.Power.{Power}
 use Rattle.power.specs.declared.Supply.{Supply}
@@ -64,11 +65,6 @@ leaves-table table o fair x e before = rw e (reads-back (table x) (rw e at fair)
 pub lent-image : {X : Type 0} (t : Table) → length (t .ports) ≡ 48 → (call : Table → Outcome X) → lent (imageOf t) call ≡ call t
 lent-image t l call = simp (reads-back t l)
 
--- what holds of both sides holds of either
-by-cond : {A : Type 0} (P : A → Type 0) (b : Bool) (x y : A) → P x → P y → P (cond b x y)
-by-cond P true x y p q = p
-by-cond P false x y p q = q
-
 -- every table that a call makes has its 48 places
 abbrev Whole : Table → Type 0
 Whole t = length (t .ports) ≡ 48
@@ -87,7 +83,7 @@ after-whole t block supply = length-tabulate 48 (portAfter t block supply)
 
 loaded-whole : (bytes : List ℕ) → Whole (loaded bytes .table)
 unfolding loaded tableOf
-loaded-whole bytes = by-cond (λ (l : Loaded). Whole (l .table)) (reads bytes) _ _ (length-tabulate 48 (λ p. portIn bytes (6 + 21 * p))) (cold-whole 0)
+loaded-whole bytes = choice (λ (l : Loaded). Whole (l .table)) (reads bytes) _ _ (length-tabulate 48 (λ p. portIn bytes (6 + 21 * p))) (cold-whole 0)
 
 -- the same of the core's own answers
 abbrev FairTold : Told → Type 0
@@ -101,38 +97,38 @@ FairTick told = Fair (λ m. m .table) (ofTick told)
 
 cold-fair : (n : ℕ) → FairTold (coldStart n)
 unfolding coldStart done refuse
-cold-fair n = by-cond FairTold (leb 1 n && leb n 48) _ _ (cold-whole n) (omega arith)
+cold-fair n = choice FairTold (leb 1 n && leb n 48) _ _ (cold-whole n) (omega arith)
 
 module _ (t : Table) (h : Whole t) where
   control-fair : (p w : ℕ) → FairTold (writeControl t p w)
   unfolding writeControl controlled done refuse
   control-fair p w =
-      by-cond FairTold (wellMade t) _ _
-      (by-cond FairTold (ltb p (t .count)) _ _
-      (by-cond FairTold (refusedWord w) _ _ (omega arith)
-      (by-cond FairTold (inDisabled (portAt t p .state) || sameAlternative (portAt t p .control) w) _ _ (with-whole p _ t h) (omega arith)))
+      choice FairTold (wellMade t) _ _
+      (choice FairTold (ltb p (t .count)) _ _
+      (choice FairTold (refusedWord w) _ _ (omega arith)
+      (choice FairTold (inDisabled (portAt t p .state) || sameAlternative (portAt t p .control) w) _ _ (with-whole p _ t h) (omega arith)))
       (omega arith))
       (omega arith)
 
   status-fair : (p : ℕ) → FairStatus (readStatus t p)
   unfolding readStatus statusAt tells refuseStatus
-  status-fair p = by-cond FairStatus (wellMade t) _ _ (by-cond FairStatus (ltb p (t .count)) _ _ (with-whole p _ t h) (omega arith)) (omega arith)
+  status-fair p = choice FairStatus (wellMade t) _ _ (choice FairStatus (ltb p (t .count)) _ _ (with-whole p _ t h) (omega arith)) (omega arith)
 
   granting-fair : (d : Power) (p : ℕ) → FairTold (granting d p t)
   unfolding granting done refuse
   granting-fair d p =
-      by-cond FairTold (atMost d (portAt t p .demand) || fits (sumOf (closedSum (withPort p (demanding d (portAt t p)) t))) (t .supply)) _ _
+      choice FairTold (atMost d (portAt t p .demand) || fits (sumOf (closedSum (withPort p (demanding d (portAt t p)) t))) (t .supply)) _ _
       (with-whole p (demanding d (portAt t p)) t h)
       (omega arith)
 
   request-fair : (p v : ℕ) → FairTold (request t p v)
   unfolding request requested refuse
   request-fair p v =
-      by-cond FairTold (wellMade t) _ _
-      (by-cond FairTold (ltb p (t .count)) _ _
-      (by-cond FairTold (leb 1 v && leb v 255) _ _
-      (by-cond FairTold (inPowerOn (portAt t p .state)) _ _
-      (by-cond FairTold (atMost (levelOf v) (budgetOf (portAt t p .class))) _ _ (granting-fair (levelOf v) p) (omega arith))
+      choice FairTold (wellMade t) _ _
+      (choice FairTold (ltb p (t .count)) _ _
+      (choice FairTold (leb 1 v && leb v 255) _ _
+      (choice FairTold (inPowerOn (portAt t p .state)) _ _
+      (choice FairTold (atMost (levelOf v) (budgetOf (portAt t p .class))) _ _ (granting-fair (levelOf v) p) (omega arith))
       (omega arith))
       (omega arith))
       (omega arith))
@@ -141,17 +137,17 @@ module _ (t : Table) (h : Whole t) where
 with-fair : (s : Supply) (t : Table) (block : List ℕ) → FairTick (tickWith s t block)
 unfolding tickWith tickAnswered refuseTick
 with-fair TooLarge t block = omega arith
-with-fair (Is supply) t block = by-cond FairTick (flagsTaken t block) _ _ (after-whole t block supply) (omega arith)
+with-fair (Is supply) t block = choice FairTick (flagsTaken t block) _ _ (after-whole t block supply) (omega arith)
 
 tick-fair : (t : Table) (block : List ℕ) (figure : ℕ) → FairTick (tick t block figure)
 unfolding tick refuseTick
 tick-fair t block figure =
-    by-cond FairTick (wellMade t) _ _
-    (by-cond FairTick (eqb (length block) (14 * t .count)) _ _ (with-fair (supplyOf figure) t block) (omega arith))
+    choice FairTick (wellMade t) _ _
+    (choice FairTick (eqb (length block) (14 * t .count)) _ _ (with-fair (supplyOf figure) t block) (omega arith))
     (omega arith)
 
 lent-fair : {X : Type 0} (table : X → Table) (bytes : List ℕ) (call : Table → Outcome X) → ((t : Table) → Whole t → Fair table (call t)) → Fair table (lent bytes call)
-lent-fair table bytes call fair = by-cond (Fair table) (loaded bytes .ok) _ _ (fair (loaded bytes .table) (loaded-whole bytes)) (omega arith)
+lent-fair table bytes call fair = choice (Fair table) (loaded bytes .ok) _ _ (fair (loaded bytes .table) (loaded-whole bytes)) (omega arith)
 
 -- every call on a table: no refusal is numbered 0, and every table that is left reads back
 pub record Calls : Type 0 where
@@ -165,7 +161,7 @@ pub calls : Calls
 unfolding coldCall controlCall statusCall requestCall tickCall
 calls =
     record {
-      cold-start = λ room ports. by-cond (Fair (λ t. t)) (stores room) _ _ (cold-fair ports) (omega arith);
+      cold-start = λ room ports. choice (Fair (λ t. t)) (stores room) _ _ (cold-fair ports) (omega arith);
       write-control = λ bytes port word. lent-fair (λ t. t) bytes (λ t. ofTold (writeControl t port word)) (λ t h. control-fair t h port word);
       read-status = λ bytes port. lent-fair (λ w. w .table) bytes (λ t. ofStatus (readStatus t port)) (λ t h. status-fair t h port);
       request = λ bytes port value. lent-fair (λ t. t) bytes (λ t. ofTold (request t port value)) (λ t h. request-fair t h port value);
@@ -199,17 +195,17 @@ unfolding findCall searchOf answerTo readCall readOf writeCall writtenOf
 frames =
     record {
       find = λ pdu.
-          by-cond NumberedSearch (ltb 1500 (length pdu)) _ _ (omega arith)
-          (by-cond NumberedSearch (isCut (walkFrom pdu 0)) _ _ (omega arith) (one-numbered pdu (powers pdu (walkFrom pdu 0))));
+          choice NumberedSearch (ltb 1500 (length pdu)) _ _ (omega arith)
+          (choice NumberedSearch (isCut (walkFrom pdu 0)) _ _ (omega arith) (one-numbered pdu (powers pdu (walkFrom pdu 0))));
       read = λ tlv.
-          by-cond NumberedRead (cut tlv) _ _ (omega arith)
-          (by-cond NumberedRead (not (exactlyOne tlv)) _ _ (omega arith)
-          (by-cond NumberedRead (badValues (formIn tlv)) _ _ (omega arith) tt));
+          choice NumberedRead (cut tlv) _ _ (omega arith)
+          (choice NumberedRead (not (exactlyOne tlv)) _ _ (omega arith)
+          (choice NumberedRead (badValues (formIn tlv)) _ _ (omega arith) tt));
       write = λ n room.
           let f = fieldsGiven n in
           let P : Written → Type 0 = λ w. Numbered (ofWrite (roomAfter f room) w) in
-          by-cond Numbered (noFields n) _ _ (omega arith)
-          (by-cond P (badCodes (f .form)) _ _ (omega arith)
-          (by-cond P (badValues (f .form)) _ _ (omega arith)
-          (by-cond P (ltb (length room) (length (bytesOf f))) _ _ (omega arith) tt)));
+          choice Numbered (noFields n) _ _ (omega arith)
+          (choice P (badCodes (f .form)) _ _ (omega arith)
+          (choice P (badValues (f .form)) _ _ (omega arith)
+          (choice P (ltb (length room) (length (bytesOf f))) _ _ (omega arith) tt)));
     }
