@@ -66,7 +66,7 @@ pub struct Moves {
     pub quiet: bool,
 }
 
-// In place: most moves change counters alone, and cost no copy of a port.
+// In place: most moves change counters alone, and need no whole step.
 pub fn move_all(table: Table, block: &[u8]) -> Moves
     requires { ⌜ (table .count ≤ 48) × (length (now block) ≡ 14 * table .count) ⌝ }
     ensures { λ r. ⌜ r ≡ movesOf table (now (block .entry)) ⌝ }

@@ -1,41 +1,24 @@
 -- `move_all` is `movesOf`: below i every port is moved in place, and its claim is ranked and added up.
 -- Assumes nothing.
-use mathlib.Core.Path.{_≡_, refl, sym, _∙_, ap, ap₂}
-use mathlib.Core.Bool.{Bool, true, false, cond, not, _&&_, and-true}
-use mathlib.Core.List.{List}
+use mathlib.Core.Path.{_≡_, sym, _∙_, ap}
+use mathlib.Core.Bool.{true, not, and-true}
 use mathlib.Core.Logic.{⊎-elim}
-use Prim.Native.Nat.{ℕ, _+_, _*_, _-_, _≤_, _<_, _^_}
-use native.Mathlib.Nat.{le-refl, le-antisymm, not-suc-le-zero}
+use Prim.Native.Nat.{_+_, _-_, _≤_, _<_}
+use native.Mathlib.Nat.{le-antisymm}
 use native.Mathlib.Omega.{arith}
-use lib.Dec.{ltb}
-use lib.ListN.{length, getD, set, replicate, length-map}
-use borrow.Author.Count.{below-more}
+use lib.ListN.{length, getD, length-map}
 use borrow.Author.Needs.{needs}
 use denote.Ref.{now}
-use Rattle.lists.specs.Every.{every, every-next}
-use Rattle.lists.specs.Places.{tabulate, Filled, filled-none, filled-more, filled-below, filled-over}
-use Rattle.lists.specs.Total.{total}
-use Rattle.power.specs.Power.{sumOf, forced}
-use Rattle.power.specs.declared.Power.{Power}
-use Rattle.power.specs.declared.Sum.{Sum}
-use Rattle.reading.specs.Sample.{sampleAt}
-use Rattle.port.specs.Claim.{rankIn, rank-in}
+use Rattle.lists.specs.Every.{every}
+use Rattle.power.specs.Power.{forced}
 use Rattle.port.specs.Form.{withCounts, quietly}
-use Rattle.port.specs.Quick.{signsOf, quickly, quick-is-step}
 use Rattle.port.specs.Settle.{rank}
 use Rattle.port.specs.Step.{step}
 use Rattle.port.specs.declared.form.Counts.{Counts}
-use Rattle.port.specs.declared.form.Moved.{Moved}
 use Rattle.port.specs.declared.form.Port.{Port}
-use Rattle.port.specs.declared.quick.Glance.{Glance}
-use Rattle.port.specs.declared.quick.Glance.the-variants.{Counted, Whole}
 use Rattle.share.specs.Passes.{added}
-use Rattle.share.specs.Share.{claimedSum, sumWhere}
-use Rattle.table.specs.declared.form.Table.{Table}
-use Rattle.table.specs.Digest.{digest}
 use Rattle.table.specs.Form.{noPort, portAt}
-use Rattle.table.specs.Tick.{movedAt, rankAt, claimAt}
-use Rattle.table.specs.Passes.{movedTable, movesOf}
+use Rattle.table.specs.Passes.{movesOf}
 use Rattle.table.proofs.Moving.{Moving, moving-none, moving-next, counted, stepped, moving-more, moving-is, moved-all}
 use Rattle.table.proofs.passes.move_all.Statement.{statement}
 use Rattle.table.proofs.passes.move_all.Tie as tie
