@@ -2,7 +2,9 @@
 use crate::mix;
 use crate::records::next;
 use crate::records::word;
+use table::form::Closed;
 use table::form::Table;
+use table::form::Ticked;
 use tlv::search::part;
 ghost use Prim.Native.Nat.{_≤_};
 
@@ -15,21 +17,25 @@ pub struct Ran {
 }
 
 fn lap(from: Ran, blocks: &[u8], size: usize, figures: &[u8], ticks: u64) -> Ran {
-    let mut table = from.table;
+    let start = from.table;
+    let mut told = Ticked {
+        table: start,
+        answer: Closed::Refused(0),
+    };
     let mut block = from.block;
     let mut figure = from.figure;
     let mut sum = from.sum;
     let mut left = ticks;
     while 0 < left {
-        let told = table::tick::tick(table, part(blocks, block, size), word(figures, figure));
-        let after = told.table;
+        let before = told.table;
+        told = table::tick::tick(before, part(blocks, block, size), word(figures, figure));
         let answer = told.answer;
-        table = after;
         sum = mix::closed(sum, answer);
         block = next(blocks, block, size);
         figure = next(figures, figure, 2);
         left -= 1;
     }
+    let table = told.table;
     Ran {
         table,
         block,

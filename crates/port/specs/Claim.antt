@@ -5,8 +5,9 @@ use Prim.Native.Nat.{ℕ, _+_, _<_}
 use mathlib.Core.Path.{_≡_, refl, sym, _∙_, ap}
 use mathlib.Core.Bool.{Bool, true, false, cond, _&&_, false≢true}
 use native.Mathlib.Omega.{arith}
-use lib.Dec.{leb}
-use borrow.Author.Tests.{le-leb, lt-leb}
+use lib.Dec.{leb, ltb}
+use borrow.Author.Tests.{le-leb, lt-leb, lt-ltb}
+use Rattle.power.specs.declared.Power.{Power}
 use Rattle.words.specs.Control.{priorityOf}
 use Rattle.words.specs.declared.control.Priority.{Priority}
 use Rattle.words.specs.declared.control.Priority.the-variants.{Unknown, Critical, High, Low}
@@ -14,18 +15,40 @@ use Rattle.port.specs.declared.form.State.{State}
 use Rattle.port.specs.declared.form.State.the-variants.{Disabled, Idle, Detecting, Backoff, Classifying, PowerUp, PowerOn, ErrorDelay, TestMode, TestError}
 use Rattle.port.specs.declared.form.Port.{Port}
 use Rattle.port.specs.declared.form.Moved.{Moved}
+use Rattle.port.specs.declared.form.Reading.{Reading}
+use Rattle.port.specs.Open.{held}
 use Rattle.port.specs.Settle.{closed, urgency, rank, granted, shed, settled}
+use Rattle.port.specs.Step.{step}
 
--- the rank, by the states before and after the move, the control word and whether the port asks
-unfoldable pub rankIn : State → State → ℕ → Bool → ℕ
-rankIn before now control asks =
-    cond (closed before && closed now) (urgency (priorityOf control))
+-- the rank, by the state after the move, the control word and whether the port asks
+unfoldable pub rankIn : State → ℕ → Bool → ℕ
+rankIn now control asks =
+    cond (closed now) (urgency (priorityOf control))
     (cond asks (3 + urgency (priorityOf control))
     6)
 
-pub rank-in : (before : State) (m : Moved) → rankIn before (m .port .state) (m .port .control) (m .asks) ≡ rank before m
+-- what is closed after the move was closed before it
+pub rank-in : (claim : Power) (p : Port) (r : Reading)
+    → rankIn (step claim p r .port .state) (step claim p r .port .control) (step claim p r .asks) ≡ rank (p .state) (step claim p r)
 unfolding rankIn rank
-rank-in before m = refl
+rank-in claim p r =
+    let m = step claim p r in
+    ap (λ (b : Bool). cond b (urgency (priorityOf (m .port .control))) (cond (m .asks) (3 + urgency (priorityOf (m .port .control))) 6)) (held claim p r)
+
+urgency-small : (u : Priority) → urgency u < 3
+urgency-small Critical = omega arith
+urgency-small High = omega arith
+urgency-small Low = omega arith
+urgency-small Unknown = omega arith
+
+-- a port that does not ask claims exactly if it is closed
+pub claims-closed : (now : State) (control : ℕ) → ltb (rankIn now control false) 6 ≡ closed now
+unfolding rankIn
+claims-closed now control = go (closed now)
+  where
+    go : (b : Bool) → ltb (cond b (urgency (priorityOf control)) 6) 6 ≡ b
+    go true = lt-ltb (urgency (priorityOf control)) 6 (omega (arith, urgency-small (priorityOf control)))
+    go false = refl
 
 -- the port after the sharing, by the rank of its claim, which tells who asked
 unfoldable pub settledAs : ℕ → Bool → Port → Port
@@ -33,12 +56,6 @@ settledAs r kept p =
     cond (leb 6 r) p
     (cond kept (cond (leb 3 r) (granted (p .state) p) p)
     (shed p .port))
-
-urgency-small : (u : Priority) → urgency u < 3
-urgency-small Critical = omega arith
-urgency-small High = omega arith
-urgency-small Low = omega arith
-urgency-small Unknown = omega arith
 
 -- a closed port is where it would be granted to be
 granted-closed : (s : State) (p : Port) → closed s ≡ true → granted s p ≡ p

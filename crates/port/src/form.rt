@@ -30,8 +30,9 @@ pub struct Port {
     pub state: State,
     pub class: u8,
     pub control: u16,
-    pub demand: Power,
     pub latches: Latches,
+    // Beside the counters, so that all eight are tested at once.
+    pub demand: Power,
     pub counts: Counts,
 }
 

@@ -12,7 +12,6 @@ use words::control::priority_of;
 use words::status::Latches;
 ghost use mathlib.Core.Path.{_≡_};
 ghost use Prim.Native.Nat.{_<_};
-ghost use mathlib.Core.Bool.{_&&_};
 ghost use Rattle.port.specs.Claim.{rankIn, settledAs};
 ghost use Rattle.port.specs.Settle.{closed, urgency, granted, inTest, shed};
 
@@ -51,22 +50,13 @@ fn urgency_of(priority: Priority) -> u8
     }
 }
 
-// Closed before the tick, and still.
-fn holds(before: State, now: State) -> bool
-    ensures { λ r. ⌜ r ≡ (closed before && closed now) ⌝ }
-{
-    if is_closed(before) {
-        return is_closed(now);
-    }
-    false
-}
-
-// The rank of a port's claim, 0 the first; 6 for a port that claims nothing.
-pub fn rank_in(before: State, after: State, control: u16, asks: bool) -> u8
-    ensures { λ r. ⌜ r ≡ rankIn before after control asks ⌝ }
+// The rank of a port's claim, 0 the first; 6 for a port that claims nothing. The state is that after the move: what is closed then was
+// closed before.
+pub fn rank_in(state: State, control: u16, asks: bool) -> u8
+    ensures { λ r. ⌜ r ≡ rankIn state control asks ⌝ }
 {
     let urgency = urgency_of(priority_of(control));
-    if holds(before, after) {
+    if is_closed(state) {
         return urgency;
     }
     if asks {

@@ -59,22 +59,15 @@ pub fn budget(class: u8) -> Power
     }
 }
 
+// The half of each demand, in a byte whose place is that half modulo 8: no two demands share a place, and a place that none has is 0.
+// So a demand is told with no branch, as it is asked of 48 ports in every tick.
+const HALVES: u64 = 0x00_96_4d_14_23_00_00_00;
+
 // A demand that a port of a well-made table may have: none, or a class's budget.
 pub fn is_demand(demand: Power) -> bool
     ensures { λ r. ⌜ r ≡ isDemand demand ⌝ }
 {
     let d = demand.0;
-    if d == 0 {
-        return true;
-    }
-    if d == BUDGETS[1] {
-        return true;
-    }
-    if d == BUDGETS[2] {
-        return true;
-    }
-    if d == BUDGETS[3] {
-        return true;
-    }
-    d == BUDGETS[4]
+    let place = d / 2 % 8 * 8;
+    (HALVES >> place) % 256 * 2 == d as u64
 }

@@ -28,7 +28,8 @@ use Rattle.table.specs.Laws.{count-after, well-count}
 use Rattle.table.specs.Tick.{movedAt, rankAt, claimAt, keptAt, portAfter, tableAfter, closedAt}
 use Rattle.table.specs.WellMade.{wellMade}
 use Rattle.table.specs.declared.form.Table.{Table}
-use Rattle.statements.specs.Diagram.{open-stays, shed-open, granted-demand, draws-at-most, draws-open, no-claim-open}
+use Rattle.port.specs.Open.{open-stays}
+use Rattle.statements.specs.Diagram.{shed-open, granted-demand, draws-at-most, draws-open, no-claim-open}
 
 -- a port that is closed with its claim kept or shed is closed with it kept
 settled-mono : (r : ℕ) (k k′ : Bool) (m : Moved) → (k ≡ true → k′ ≡ true) → closed (settled r k m .state) ≡ true → closed (settled r k′ m .state) ≡ true

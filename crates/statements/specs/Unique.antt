@@ -101,7 +101,7 @@ pub record Unique : Type 0 where
   pub port-step-step : (claim : Power) (p : Port) (reading : Reading) → One Moved (λ r. r ≡ step claim p reading)
   pub port-quick-quick : (port : Port) (signs : Signs) → One Glance (λ r. r ≡ quickly port signs)
   pub port-settle-is-closed : (state : State) → One Bool (λ r. r ≡ closed state)
-  pub port-settle-rank-in : (before after : State) (control : ℕ) (asks : Bool) → One ℕ (λ r. r ≡ rankIn before after control asks)
+  pub port-settle-rank-in : (state : State) (control : ℕ) (asks : Bool) → One ℕ (λ r. r ≡ rankIn state control asks)
   pub port-settle-settled-port : (rank : ℕ) (kept : Bool) (port : Port) → One Port (λ r. r ≡ settledAs rank kept port)
   pub share-with-claim : (sum : Sum) (rank : ℕ) (demand : Power) → One Sum (λ r. (r ≡ added sum rank demand) × (demand .0 < 2 ^ 16))
   pub share-kept : (claims : Claims) (s : Power) → One (List Bool) (λ r. r ≡ tabulate 48 (keeps 48 (rankOf claims) (demandOf claims) (s .0)))
@@ -159,7 +159,7 @@ unique =
       port-step-step = λ claim p reading. one Moved (step claim p reading);
       port-quick-quick = λ port signs. one Glance (quickly port signs);
       port-settle-is-closed = λ state. one Bool (closed state);
-      port-settle-rank-in = λ before after control asks. one ℕ (rankIn before after control asks);
+      port-settle-rank-in = λ state control asks. one ℕ (rankIn state control asks);
       port-settle-settled-port = λ rank kept port. one Port (settledAs rank kept port);
       share-with-claim = λ sum rank demand r s p q. p .0 ∙ sym (q .0);
       share-kept = λ claims s. one (List Bool) (tabulate 48 (keeps 48 (rankOf claims) (demandOf claims) (s .0)));

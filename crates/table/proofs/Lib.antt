@@ -1,1 +1,3 @@
+pub mod Checking
+pub mod Judging
 pub mod Moving

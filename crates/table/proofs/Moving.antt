@@ -1,131 +1,151 @@
--- The table while its ports move, one after the other: what holds before place i, and that it holds after one port more.
--- Assumes nothing.
+-- The table while its ports move, one after the other: what holds before place i, that it holds after one port more, and what it
+-- comes to at the end. Assumes nothing.
 use mathlib.Core.Path.{_≡_, refl, sym, _∙_, ap, ap₂}
 use mathlib.Core.Bool.{Bool, true, false, cond, not, _&&_}
 use mathlib.Core.List.{List}
 use Prim.Native.Nat.{ℕ, _+_, _*_, _≤_, _<_, _^_}
-use native.Mathlib.Nat.{not-suc-le-zero, le-refl}
+use native.Mathlib.Nat.{le-refl}
 use native.Mathlib.Omega.{arith}
-use lib.Dec.{ltb}
-use lib.ListN.{length, getD, set, replicate, length-replicate}
-use borrow.Author.Count.{below-more}
-use borrow.Author.Tests.{lt-ltb, le-ltb}
+use lib.Count.{ones, ones-le}
+use lib.ListN.{length, getD, set, replicate, length-replicate, getD-replicate}
+use borrow.Author.Tests.{leb-true}
+use Rattle.lists.specs.Count.{mask-below}
 use Rattle.lists.specs.Every.{every, every-next}
-use Rattle.lists.specs.Places.{tabulate, Filled, filled-none, filled-more, filled-below, filled-over}
-use Rattle.lists.specs.Total.{total, total-cong, total-less}
-use Rattle.power.specs.Power.{sumOf, forced}
+use Rattle.lists.specs.Places.{tabulate, Filled, filled-none, filled-more, filled-kept, filled-below, filled-over}
+use Rattle.lists.specs.Total.{total}
+use Rattle.power.specs.Power.{sumOf, forced, fits}
 use Rattle.power.specs.declared.Power.{Power}
 use Rattle.power.specs.declared.Sum.{Sum}
 use Rattle.reading.specs.Sample.{sampleAt}
-use Rattle.reading.specs.declared.sample.Sample.{Sample}
-use Rattle.port.specs.Claim.{rankIn, rank-in}
 use Rattle.port.specs.Form.{withCounts, quietly}
-use Rattle.port.specs.Quick.{signsOf, quickly, quick-is-step}
-use Rattle.port.specs.Settle.{rank}
-use Rattle.port.specs.Step.{step}
+use Rattle.port.specs.Quick.{quickly, quick-is-step}
 use Rattle.port.specs.declared.form.Counts.{Counts}
 use Rattle.port.specs.declared.form.Moved.{Moved}
 use Rattle.port.specs.declared.form.Port.{Port}
 use Rattle.port.specs.declared.quick.Glance.{Glance}
 use Rattle.port.specs.declared.quick.Glance.the-variants.{Counted}
 use Rattle.port.specs.declared.quick.Signs.{Signs}
-use Rattle.share.specs.Passes.{added}
-use Rattle.share.specs.Share.{claims, claimedSum, sumWhere}
-use Rattle.share.proofs.Sums.{claimed-more}
 use Rattle.table.specs.declared.form.Table.{Table}
-use Rattle.table.specs.Digest.{digest}
+use Rattle.table.specs.declared.form.Closed.the-variants.{Ports}
+use Rattle.table.specs.declared.form.Ticked.{Ticked}
+use Rattle.table.specs.declared.tally.Tally.{Tally}
+use Rattle.table.specs.Calls.{draws}
+use Rattle.table.specs.Digest.{digest, signsIn, signs-in}
 use Rattle.table.specs.Form.{noPort, portAt}
-use Rattle.table.specs.Tick.{movedAt, rankAt, claimAt}
-use Rattle.table.specs.Passes.{movedTable, movesOf}
+use Rattle.table.specs.Passes.{movedTable, askedAll, sharedOut}
+use Rattle.table.specs.Settling.{quiet-all-is, shared-out-is}
+use Rattle.table.specs.Tally.{talliedBy, tallyBelow, tallyOf, Tallying, tallying-none, tallying-more, tally-cong, tally-a, tally-b}
+use Rattle.table.specs.Tick.{movedAt, tableAfter, maskA, maskB, answered}
+
+-- the answer of a table whose closed ports have been counted
+pub answered-by : (x : Table) (y : Tally) → x .count ≤ 48 → y ≡ tallyOf x → record { table = x; answer = Ports (y .a) (y .b) (ones (y .a) + ones (y .b)) } ≡ answered x
+unfolding answered
+answered-by x y few e =
+    ap₂ (λ (a b : ℕ). record { table = x; answer = Ports a b (ones a + ones b) }) (ap (λ (z : Tally). z .a) e ∙ tally-a x few) (ap (λ (z : Tally). z .b) e ∙ tally-b x few)
+
+-- 48 places have at most 48 ones
+pub few-a : (x : Table) (y : Tally) → x .count ≤ 48 → y ≡ tallyOf x → ones (y .a) ≤ 48
+unfolding maskA
+few-a x y few e = rw (ap (λ (z : Tally). z .a) e ∙ tally-a x few) (ones-le 48 _ (mask-below 48 _))
+
+pub few-b : (x : Table) (y : Tally) → x .count ≤ 48 → y ≡ tallyOf x → ones (y .b) ≤ 48
+unfolding maskB
+few-b x y few e = rw (ap (λ (z : Tally). z .b) e ∙ tally-b x few) (ones-le 48 _ (mask-below 48 _))
 
 module _ (t : Table) (block : List ℕ) where
-  -- what a place below the count claims
-  abbrev rankHere : ℕ → ℕ
-  rankHere p = rank (portAt t p .state) (movedAt t block p)
+  abbrev portHere : ℕ → Port
+  portHere p = movedAt t block p .port
 
-  abbrev demandHere : ℕ → ℕ
-  demandHere p = movedAt t block p .port .demand .0
+  abbrev asksHere : ℕ → Bool
+  asksHere p = movedAt t block p .asks
 
-  -- the ports below i have moved, and their claims are ranked and added up
-  pub record Moving (i : ℕ) (after : Table) (ranks : List ℕ) (claimed : Sum) (quiet : Bool) : Type 0 where
-    pub ports : Filled noPort (λ p. movedAt t block p .port) (t .ports) i (after .ports)
+  -- the ports below i have moved and are counted
+  pub record Moving (i : ℕ) (after : Table) (asked : List Bool) (quiet : Bool) (tally : Tally) : Type 0 where
+    pub ports : Filled noPort portHere (t .ports) i (after .ports)
     pub count : after .count ≡ t .count
     pub supply : after .supply ≡ t .supply
-    pub ranked : Filled 0 rankHere (replicate 48 6) i ranks
-    pub added-up : claimed ≡ sumOf (claimedSum i rankHere demandHere)
-    pub small : (q : ℕ) → q < i → demandHere q < 2 ^ 16
-    pub none-asks : quiet ≡ every i (λ p. not (movedAt t block p .asks))
+    pub asking : Filled false asksHere (replicate 48 false) i asked
+    pub none-asks : quiet ≡ every i (λ p. not (asksHere p))
+    pub counted : Tallying portHere i tally
 
-  pub moving-none : Moving 0 t (replicate 48 6) (sumOf 0) true
-  unfolding claimedSum sumWhere total every
+  pub moving-none : Moving 0 t (replicate 48 false) true (record { drawn = sumOf 0; a = 0; b = 0 })
+  unfolding every
   moving-none =
-      record { ports = filled-none _ _ _; count = refl; supply = refl; ranked = filled-none _ _ _; added-up = refl; small = λ q l. absurd (not-suc-le-zero l); none-asks = refl }
+      record { ports = filled-none _ _ _; count = refl; supply = refl; asking = filled-none _ _ _; none-asks = refl; counted = tallying-none portHere }
 
-  -- the port that moves next is as it was
-  pub moving-next : (i : ℕ) (after : Table) (ranks : List ℕ) (claimed : Sum) (quiet : Bool) → Moving i after ranks claimed quiet → getD (after .ports) i noPort ≡ portAt t i
-  unfolding portAt
-  moving-next i after ranks claimed quiet M = M .ports .left i (le-refl i)
+  module _ (i : ℕ) (after : Table) (asked : List Bool) (quiet : Bool) (tally : Tally) (M : Moving i after asked quiet tally) where
+    -- the port that moves next is as it was
+    pub moving-next : getD (after .ports) i noPort ≡ portAt t i
+    unfolding portAt
+    moving-next = M .ports .left i (le-refl i)
+
+    -- one port more
+    pub moving-more : i < 48 → length (t .ports) ≡ 48 → (m : Moved) → m ≡ movedAt t block i → m .port .demand .0 < 2 ^ 16 → (asked' : List Bool) → Filled false asksHere (replicate 48 false) (i + 1) asked'
+        → Moving (i + 1) (record { ports = set (after .ports) i (m .port); count = after .count; supply = after .supply }) asked' (quiet && not (m .asks)) (talliedBy tally i (m .port))
+    moving-more h n m e d asked' A =
+        record {
+          ports = filled-more noPort portHere (t .ports) i (after .ports) (m .port) (M .ports) (omega (arith, n)) (ap (λ (x : Moved). x .port) e);
+          count = M .count;
+          supply = M .supply;
+          asking = A;
+          none-asks = ap₂ _&&_ (M .none-asks) (ap (λ (x : Moved). not (x .asks)) e) ∙ sym (every-next i (λ p. not (asksHere p)));
+          counted = rw e (tallying-more portHere i (rw e at d) tally (M .counted) h);
+        }
+
+    -- a port that does not ask, and any
+    pub asks-not : i < 48 → asksHere i ≡ false → Filled false asksHere (replicate 48 false) (i + 1) asked
+    asks-not h e = filled-kept false asksHere (replicate 48 false) i asked (M .asking) (getD-replicate 48 i false false h ∙ sym e)
+
+    pub asks-told : i < 48 → (a : Bool) → a ≡ asksHere i → Filled false asksHere (replicate 48 false) (i + 1) (set asked i a)
+    asks-told h a e = filled-more false asksHere (replicate 48 false) i asked a (M .asking) (omega (arith, length-replicate {A = Bool} 48 false)) e
 
   -- a port whose counters alone change, as the quick answer says
-  pub counted : (i : ℕ) (before : Port) (s : Sample) (g : Signs) (q : Glance) (k : Counts)
-      → before ≡ portAt t i → s ≡ sampleAt block (14 * i) → g ≡ signsOf (digest s) → q ≡ quickly before g → q ≡ Counted k → quietly (withCounts k before) ≡ movedAt t block i
+  pub counted-is : (i : ℕ) (before : Port) (g : Signs) (q : Glance) (k : Counts)
+      → before ≡ portAt t i → g ≡ signsIn (sampleAt block (14 * i) .flags) → q ≡ quickly before g → q ≡ Counted k → quietly (withCounts k before) ≡ movedAt t block i
   unfolding movedAt
-  counted i before s g q k e f h j told =
-      sym (rw (← e, ← f) (quick-is-step forced before (digest s) k (ap (quickly before) (sym h) ∙ sym j ∙ told)))
-
-  -- and one that takes the whole step
-  pub stepped : (i : ℕ) (before : Port) (s : Sample) → before ≡ portAt t i → s ≡ sampleAt block (14 * i) → step forced before (digest s) ≡ movedAt t block i
-  unfolding movedAt
-  stepped i before s e f = ap₂ (λ (p : Port) (x : Sample). step forced p (digest x)) e f
-
-  -- one port more
-  pub moving-more : (i : ℕ) (after : Table) (ranks : List ℕ) (claimed : Sum) (quiet : Bool) → Moving i after ranks claimed quiet
-      → i < 48 → length (t .ports) ≡ 48
-      → (before : Port) (m : Moved) (r : ℕ) → before ≡ portAt t i → m ≡ movedAt t block i → r ≡ rankIn (before .state) (m .port .state) (m .port .control) (m .asks) → m .port .demand .0 < 2 ^ 16
-      → Moving (i + 1) (record { ports = set (after .ports) i (m .port); count = after .count; supply = after .supply }) (set ranks i r) (added claimed r (m .port .demand)) (quiet && not (m .asks))
-  moving-more i after ranks claimed quiet M h n before m r b e f d =
-      let more : (q : ℕ) → q < i + 1 → demandHere q < 2 ^ 16 = below-more _ _ (M .small) (rw (ap (λ (x : Moved). x .port .demand .0) e) at d) in
-      let r-is : r ≡ rankHere i = f ∙ rank-in (before .state) m ∙ ap₂ rank (ap (λ (x : Port). x .state) b) e in
-      record {
-        ports = filled-more noPort (λ p. movedAt t block p .port) (t .ports) i (after .ports) (m .port) (M .ports) (omega (arith, n)) (ap (λ (x : Moved). x .port) e);
-        count = M .count;
-        supply = M .supply;
-        ranked = filled-more 0 rankHere (replicate 48 6) i ranks r (M .ranked) (omega (arith, length-replicate {A = ℕ} 48 6)) r-is;
-        added-up =
-            ap₂ (λ (s : Sum) (k : ℕ). added s k (m .port .demand)) (M .added-up) r-is
-            ∙ ap (λ (x : Moved). added (sumOf (claimedSum i rankHere demandHere)) (rankHere i) (x .port .demand)) e
-            ∙ claimed-more i rankHere demandHere (movedAt t block i .port .demand) refl h more;
-        small = more;
-        none-asks = ap₂ _&&_ (M .none-asks) (ap (λ (x : Moved). not (x .asks)) e) ∙ sym (every-next i (λ p. not (movedAt t block p .asks)));
-      }
+  counted-is i before g q k e h j told =
+      let s = sampleAt block (14 * i) in
+      sym (rw (← e) (quick-is-step forced before (digest s) k (ap (quickly before) (signs-in s ∙ sym h) ∙ sym j ∙ told)))
 
   -- the same said of other names
-  pub moving-is : (i : ℕ) (after after' : Table) (ranks ranks' : List ℕ) (claimed claimed' : Sum) (quiet quiet' : Bool)
-      → after ≡ after' → ranks ≡ ranks' → claimed ≡ claimed' → quiet ≡ quiet' → Moving i after' ranks' claimed' quiet' → Moving i after ranks claimed quiet
-  moving-is i after after' ranks ranks' claimed claimed' quiet quiet' a r c q M = rw (a, r, c, q) M
+  pub moving-is : (i : ℕ) (after after' : Table) (asked asked' : List Bool) (quiet quiet' : Bool) (tally tally' : Tally)
+      → after ≡ after' → asked ≡ asked' → quiet ≡ quiet' → tally ≡ tally' → Moving i after' asked' quiet' tally' → Moving i after asked quiet tally
+  moving-is i after after' asked asked' quiet quiet' tally tally' a r q y M = rw (a, r, q, y) M
 
-  -- the places past the count claim nothing, so that all claims are those below it
-  past-none : t .count ≤ 48 → claimedSum (t .count) rankHere demandHere ≡ claimedSum 48 (rankAt t block) (λ q. claimAt t block q .0)
-  unfolding claimedSum sumWhere claims rankAt claimAt
-  past-none h =
-      total-cong (t .count) _ _ (λ p l. simp (lt-ltb p (t .count) l))
-      ∙ sym (total-less (t .count) 48 _ h (λ p l. simp (le-ltb p (t .count) l)))
+  -- ---- all ports below the count have moved
+  module _ (few : t .count ≤ 48) (long : length (t .ports) ≡ 48) (after : Table) (asked : List Bool) (quiet : Bool) (tally : Tally) (M : Moving (t .count) after asked quiet tally) where
+    moved-ports : after .ports ≡ movedTable t block .ports
+    unfolding movedTable portAt
+    moved-ports = filled-below noPort portHere (t .ports) 48 (t .count) (after .ports) long (M .ports)
 
-  -- all ports below the count
-  pub moved-all : (i : ℕ) (after : Table) (ranks : List ℕ) (claimed : Sum) (quiet : Bool) → Moving i after ranks claimed quiet → i ≡ t .count → t .count ≤ 48 → length (t .ports) ≡ 48
-      → record { table = after; ranks = ranks; claimed = claimed; quiet = quiet } ≡ movesOf t block
-  unfolding movesOf movedTable rankAt portAt
-  moved-all i after ranks claimed quiet M e h n =
-      let A = rw e at M in
-      λ k.
-      record {
-        table =
-            record {
-              ports = filled-below noPort (λ p. movedAt t block p .port) (t .ports) 48 (t .count) (after .ports) n (A .ports) k;
-              count = A .count k;
-              supply = A .supply k;
-            };
-        ranks = filled-over 0 rankHere 6 48 (t .count) ranks (A .ranked) k;
-        claimed = (A .added-up ∙ ap sumOf (past-none h)) k;
-        quiet = A .none-asks k;
-      }
+    moved-table : after ≡ movedTable t block
+    unfolding movedTable
+    moved-table = λ k. record { ports = moved-ports k; count = M .count k; supply = M .supply k }
+
+    asked-all : asked ≡ askedAll t block
+    unfolding askedAll
+    asked-all = filled-over false asksHere false 48 (t .count) asked (M .asking)
+
+    module _ (supply : Power) where
+      abbrev now : Table
+      now = record { ports = after .ports; count = after .count; supply = supply }
+
+      -- the tally is that of the table as it is now
+      pub tally-now : tally ≡ tallyOf now
+      unfolding tallyOf portAt
+      tally-now =
+          M .counted .is
+          ∙ tally-cong (t .count) portHere (portAt now) (λ p l. sym (M .ports .done p l))
+          ∙ ap (λ (n : ℕ). tallyBelow n (portAt now)) (sym (M .count))
+
+      -- where no port asks and what is closed fits, this is the tick
+      pub quiet-tick : quiet ≡ true → fits (tally .drawn) supply ≡ true → now ≡ tableAfter t block supply
+      unfolding fits tallyBelow
+      quiet-tick q f =
+          let drawn : tally .drawn .0 ≡ total (t .count) (λ p. draws (portHere p)) = ap (λ (y : Tally). y .drawn .0) (M .counted .is) in
+          (λ k. record { ports = moved-ports k; count = M .count k; supply = supply })
+          ∙ quiet-all-is t block supply few (sym (M .none-asks) ∙ q) (rw drawn at (leb-true (tally .drawn .0) (supply .0) f))
+
+      -- and elsewhere what the sharing makes of it
+      pub shared-tick : sharedOut after asked supply ≡ tableAfter t block supply
+      shared-tick = ap₂ (λ (x : Table) (a : List Bool). sharedOut x a supply) moved-table asked-all ∙ shared-out-is t block supply

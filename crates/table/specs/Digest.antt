@@ -1,5 +1,7 @@
 -- What a tick is told of a port by this board's sample.
-use mathlib.Core.Bool.{Bool, cond}
+use Prim.Native.Nat.{ℕ}
+use mathlib.Core.Path.{_≡_, refl}
+use mathlib.Core.Bool.{Bool, true, false, cond}
 use Rattle.reading.specs.Class.{classOfTwo, budgetOf}
 use Rattle.reading.specs.Sample.{flagsOf}
 use Rattle.reading.specs.Signature.{signatureOf}
@@ -13,6 +15,8 @@ use Rattle.port.specs.declared.form.Classing.the-variants.{NotDone as NotClasse
 use Rattle.port.specs.declared.form.Detection.{Detection}
 use Rattle.port.specs.declared.form.Detection.the-variants.{NotDone, Valid as DetectedValid, Invalid as DetectedInvalid, Open as DetectedOpen}
 use Rattle.port.specs.declared.form.Reading.{Reading}
+use Rattle.port.specs.declared.quick.Signs.{Signs}
+use Rattle.port.specs.Quick.{isDone, isClassed, signsOf}
 
 abbrev pub detectionOf : Signature → Detection
 detectionOf Valid = DetectedValid
@@ -35,3 +39,30 @@ digest s =
       overload = flagsOf (s .flags) .overload;
       load = flagsOf (s .flags) .load;
     }
+
+-- ---- what the flags show of the reading before it is worked out
+unfoldable pub signsIn : ℕ → Signs
+signsIn flags =
+    record {
+      detected = flagsOf flags .«detection_done»;
+      classed = flagsOf flags .«class_done»;
+      settled = flagsOf flags .settled;
+      limiting = flagsOf flags .limiting;
+      overload = flagsOf flags .overload;
+      load = flagsOf flags .load;
+    }
+
+done : (b : Bool) (s : Signature) → isDone (cond b (detectionOf s) NotDone) ≡ b
+done true Valid = refl
+done true Invalid = refl
+done true Open = refl
+done false s = refl
+
+classed : (b : Bool) (k : Class) → isClassed (cond b (classingOf k) NotClassed) ≡ b
+classed true (Is k) = refl
+classed true Failure = refl
+classed false k = refl
+
+pub signs-in : (s : Sample) → signsOf (digest s) ≡ signsIn (s .flags)
+unfolding signsOf digest signsIn
+signs-in s = simp (done, classed)

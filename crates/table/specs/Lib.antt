@@ -5,6 +5,7 @@ pub mod Kept
 pub mod Laws
 pub mod Passes
 pub mod Settling
+pub mod Tally
 pub mod Tick
 pub mod Well
 pub mod WellMade

@@ -1,36 +1,62 @@
--- What the passes of a tick hand to each other. A reader of the tick needs none of this: `tableAfter` is the tick's meaning.
-use Prim.Native.Nat.{ℕ}
-use mathlib.Core.Bool.{Bool, false, cond, not}
+-- What the passes of a tick hand to each other. A reader of the tick needs none of this: `tick` and `tableAfter` are its meaning.
+-- Assumes nothing.
+use Prim.Native.Nat.{ℕ, _*_}
+use mathlib.Core.Path.{_≡_, sym, _∙_}
+use mathlib.Core.Bool.{Bool, false, cond, not, _&&_, and-assoc}
 use mathlib.Core.List.{List}
-use lib.Dec.{ltb}
-use lib.ListN.{getD}
+use lib.Dec.{leb, ltb, eqb}
+use lib.ListN.{length, getD}
 use Rattle.lists.specs.Every.{every}
 use Rattle.lists.specs.Places.{tabulate}
-use Rattle.power.specs.Power.{zeroPower, sumOf}
+use Rattle.power.specs.Power.{zeroPower, atMost, highestSupply}
 use Rattle.power.specs.declared.Power.{Power}
-use Rattle.port.specs.Claim.{settledAs}
-use Rattle.share.specs.Share.{claimedSum}
+use Rattle.reading.specs.Sample.{sampleAt, reservedFlags}
+use Rattle.port.specs.Claim.{rankIn, settledAs}
+use Rattle.share.specs.Given.{rankOf, demandOf}
+use Rattle.share.specs.Share.{keeps}
+use Rattle.share.specs.declared.Claims.{Claims}
 use Rattle.table.specs.declared.form.Table.{Table}
-use Rattle.table.specs.declared.passes.Moves.{Moves}
 use Rattle.table.specs.Form.{portAt}
-use Rattle.table.specs.Tick.{movedAt, rankAt, claimAt}
+use Rattle.table.specs.Tick.{movedAt}
+use Rattle.table.specs.WellMade.{wellPort, wellMade}
+
+-- ---- the tests
+
+-- what a well-made table has beside its ports
+unfoldable pub wellHead : ℕ → Power → Bool
+wellHead count supply = (leb 1 count && leb count 48) && atMost supply highestSupply
+
+pub well-parts : (t : Table) → wellMade t ≡ (wellHead (t .count) (t .supply) && every (t .count) (λ p. wellPort (portAt t p)))
+unfolding wellMade wellHead
+well-parts t = simp and-assoc
+
+-- no sample of the first n has reserved flags
+unfoldable pub flagsFine : ℕ → List ℕ → Bool
+flagsFine n block = every n (λ p. not (reservedFlags (sampleAt block (14 * p) .flags)))
+
+-- the number of the refusal, 0 if nothing is refused
+unfoldable pub refusalOf : Bool → ℕ → List ℕ → ℕ → ℕ
+refusalOf well n block figure =
+    cond well (cond (eqb (length block) (14 * n)) (cond (leb figure 60000) (cond (flagsFine n block) 0 3) 4) 1) 13
+
+-- ---- the moves
 
 -- the table with every port below the count moved
 unfoldable pub movedTable : Table → List ℕ → Table
 movedTable t block =
     record { ports = tabulate 48 (λ p. cond (ltb p (t .count)) (movedAt t block p .port) (portAt t p)); count = t .count; supply = t .supply }
 
--- beside it the ranks, the demands of all claims in one, and whether no port asks
-unfoldable pub movesOf : Table → List ℕ → Moves
-movesOf t block =
-    record {
-      table = movedTable t block;
-      ranks = tabulate 48 (rankAt t block);
-      claimed = sumOf (claimedSum 48 (rankAt t block) (λ q. claimAt t block q .0));
-      quiet = every (t .count) (λ p. not (movedAt t block p .asks));
-    }
+-- and which ports ask
+unfoldable pub askedAll : Table → List ℕ → List Bool
+askedAll t block = tabulate 48 (λ p. cond (ltb p (t .count)) (movedAt t block p .asks) false)
 
--- the demand of each port; a place past the count has none
+-- ---- the sharing, of a table whose ports have moved
+
+-- the rank of each claim; a place past the count has none
+unfoldable pub ranksOf : Table → List Bool → List ℕ
+ranksOf t asked = tabulate 48 (λ p. cond (ltb p (t .count)) (rankIn (portAt t p .state) (portAt t p .control) (getD asked p false)) 6)
+
+-- and its demand
 unfoldable pub demandsOf : Table → List Power
 demandsOf t = tabulate 48 (λ p. cond (ltb p (t .count)) (portAt t p .demand) zeroPower)
 
@@ -42,3 +68,8 @@ settledAll t ranks kept supply =
       count = t .count;
       supply = supply;
     }
+
+unfoldable pub sharedOut : Table → List Bool → Power → Table
+sharedOut t asked supply =
+    let claims : Claims = record { ranks = ranksOf t asked; demands = demandsOf t } in
+    settledAll t (ranksOf t asked) (tabulate 48 (keeps 48 (rankOf claims) (demandOf claims) (supply .0))) supply

@@ -14,8 +14,7 @@ ghost use mathlib.Core.Path.{_≡_};
 ghost use mathlib.Core.Bool.{cond};
 ghost use Rattle.reading.specs.Class.{classOfTwo};
 ghost use Rattle.reading.specs.Signature.{signatureOf};
-ghost use Rattle.port.specs.Quick.{signsOf};
-ghost use Rattle.table.specs.Digest.{detectionOf, classingOf, digest};
+ghost use Rattle.table.specs.Digest.{detectionOf, classingOf, digest, signsIn};
 
 fn detection_of(signature: Signature) -> Detection
     ensures { λ r. ⌜ r ≡ detectionOf signature ⌝ }
@@ -55,10 +54,10 @@ fn classing(done: bool, s: Sample) -> Classing
 }
 
 // What the flags show of the reading before it is worked out.
-pub fn signs_of(sample: Sample) -> Signs
-    ensures { λ r. ⌜ r ≡ signsOf (digest sample) ⌝ }
+pub fn signs_of(word: u16) -> Signs
+    ensures { λ r. ⌜ r ≡ signsIn word ⌝ }
 {
-    let flags = flags_of(sample.flags);
+    let flags = flags_of(word);
     Signs {
         detected: flags.detection_done,
         classed: flags.class_done,

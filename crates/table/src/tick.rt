@@ -1,42 +1,113 @@
 // The tick: refusals first, and then a part that cannot refuse.
 use crate::answers::refuse_tick;
+use crate::block::flags_at;
+use crate::block::flags_fine;
+use crate::block::sample;
+use crate::digest::digest_of;
+use crate::digest::signs_of;
+use crate::form::Closed;
 use crate::form::Table;
 use crate::form::Ticked;
-use crate::masks::answered_with;
-use crate::passes::flags_taken;
-use crate::passes::table_after;
-use crate::well_made::well_made;
+use crate::passes::shared_out;
+use crate::tally::Tally;
+use crate::tally::tallied;
+use crate::tally::tally_of;
+use crate::well_made::well_head;
+use crate::well_made::well_port;
+use port::form::Moved;
+use port::form::Port;
+use port::quick::Glance;
+use port::quick::quick;
+use port::step::step;
 use power::Power;
-use power::Supply;
 ghost use mathlib.Core.Path.{_≡_};
-ghost use Prim.Native.Nat.{_*_, _≤_};
+ghost use Prim.Native.Nat.{_*_, _/_, _<_};
 ghost use lib.ListN.{length};
-ghost use Rattle.table.specs.Tick.{tickWith, tick};
+ghost use Rattle.power.specs.Power.{forced};
+ghost use Rattle.reading.specs.Sample.{sampleAt};
+ghost use Rattle.port.specs.Step.{step as stepOf};
+ghost use Rattle.table.specs.Digest.{digest};
+ghost use Rattle.table.specs.Passes.{refusalOf};
+ghost use Rattle.table.specs.Tick.{tick};
 
-fn tick_with(supply: Supply, table: Table, block: &[u8]) -> Ticked
-    requires { ⌜ (table .count ≤ 48) × (length (now block) ≡ 14 * table .count) ⌝ }
-    ensures { λ r. ⌜ r ≡ tickWith supply table (now (block .entry)) ⌝ }
+// The number of the refusal, 0 if nothing is refused.
+fn refusal(well: bool, count: u16, block: &[u8], figure: u64) -> u8
+    ensures { λ r. ⌜ r ≡ refusalOf well count (now (block .entry)) figure ⌝ }
 {
-    match supply {
-        Supply::TooLarge => refuse_tick(4, table),
-        Supply::Is(figure) => {
-            if flags_taken(table, block) {
-                return answered_with(table_after(table, block, figure));
-            }
-            refuse_tick(3, table)
-        }
+    if !well {
+        return 13;
     }
+    let n = count as usize;
+    if block.len() != 14 * n {
+        return 1;
+    }
+    let highest = Power::HIGHEST_SUPPLY.0;
+    if figure > highest as u64 {
+        return 4;
+    }
+    if flags_fine(block, n) { 0 } else { 3 }
 }
 
-pub fn tick(table: Table, block: &[u8], figure: u64) -> Ticked
+fn stepped(port: Port, block: &[u8], at: usize) -> Moved
+    requires { ⌜ at < length (now block) / 14 ⌝ }
+    ensures { λ r. ⌜ r ≡ stepOf forced port (digest (sampleAt (now (block .entry)) (14 * at))) ⌝ }
+{
+    step(Power::FORCED, port, digest_of(sample(block, at)))
+}
+
+// One function, and the table changed where it stands: a table that is handed on is copied, which costs as much as five ports' moves.
+pub fn tick(mut table: Table, block: &[u8], figure: u64) -> Ticked
     ensures { λ r. ⌜ r ≡ tick table (now (block .entry)) figure ⌝ }
 {
-    if !well_made(table) {
-        return refuse_tick(13, table);
+    let count = table.count;
+    let n = count as usize;
+    let mut well = well_head(count, table.supply);
+    let mut k = 0;
+    while well & (k < n) {
+        let port = table.ports[k];
+        well = well_port(port);
+        k += 1;
     }
-    let n = table.count as usize;
-    if block.len() != 14 * n {
-        return refuse_tick(1, table);
+    let refused = refusal(well, count, block, figure);
+    if refused != 0 {
+        return refuse_tick(refused, table);
     }
-    tick_with(Power::supply(figure), table, block)
+    let supply = Power(figure as u16);
+    let mut asked = [false; 48];
+    let mut quiet = true;
+    let mut tally = Tally::NONE;
+    let mut i = 0;
+    while i < n {
+        let before = table.ports[i];
+        match quick(before, signs_of(flags_at(block, i))) {
+            // Most moves change counters alone.
+            Glance::Counted(counts) => {
+                let port = Port { counts, ..before };
+                table.ports[i] = port;
+                tally = tallied(tally, i, port);
+            }
+            Glance::Whole => {
+                let whole = table.ports[i];
+                let m = stepped(whole, block, i);
+                let port = m.port;
+                table.ports[i] = port;
+                asked[i] = m.asks;
+                quiet = quiet & !m.asks;
+                tally = tallied(tally, i, port);
+            }
+        }
+        i += 1;
+    }
+    // Where no port asks and what is closed fits, nothing has to be shared.
+    if quiet & tally.drawn.fits(supply) {
+        table.supply = supply;
+    } else {
+        table = shared_out(table, asked, supply);
+        tally = tally_of(table);
+    }
+    let number = u64::count_ones(tally.a) + u64::count_ones(tally.b);
+    Ticked {
+        table,
+        answer: Closed::Ports(tally.a, tally.b, number),
+    }
 }

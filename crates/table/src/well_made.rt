@@ -4,6 +4,7 @@ use port::form::Counts;
 use port::form::Port;
 use power::Power;
 ghost use mathlib.Core.Path.{_≡_};
+ghost use Rattle.table.specs.Passes.{wellHead};
 ghost use Rattle.table.specs.WellMade.{wellCounts, wellPort, wellMade};
 
 const MOST: u16 = 2_000;
@@ -20,20 +21,23 @@ fn well_counts(counts: Counts) -> bool
         & (counts.no_load <= MOST)
 }
 
-fn well_port(port: Port) -> bool
+// The demand is within the last test; beside the counters it makes eight numbers that are compared at once.
+pub fn well_port(port: Port) -> bool
     ensures { λ r. ⌜ r ≡ wellPort port ⌝ }
 {
     let counts = port.counts;
-    if !well_counts(counts) {
+    if !((port.demand.0 <= MOST) & well_counts(counts)) {
         return false;
     }
-    if 4 < port.class {
-        return false;
-    }
-    if words::control::refused(port.control as u64) {
-        return false;
-    }
-    reading::class::is_demand(port.demand)
+    (port.class <= 4)
+        & !words::control::refused(port.control as u64)
+        & reading::class::is_demand(port.demand)
+}
+
+pub fn well_head(count: u16, supply: Power) -> bool
+    ensures { λ r. ⌜ r ≡ wellHead count supply ⌝ }
+{
+    (1 <= count) & (count <= 48) & supply.at_most(Power::HIGHEST_SUPPLY)
 }
 
 // Only ports below the count are looked at: what stands past it may be anything.
@@ -41,23 +45,13 @@ pub fn well_made(table: Table) -> bool
     ensures { λ r. ⌜ r ≡ wellMade table ⌝ }
 {
     let count = table.count;
-    if count < 1 {
-        return false;
-    }
-    if 48 < count {
-        return false;
-    }
-    if !table.supply.at_most(Power::HIGHEST_SUPPLY) {
-        return false;
-    }
     let n = count as usize;
-    let mut i = 0;
-    while i < n {
-        let port = table.ports[i];
-        if !well_port(port) {
-            return false;
-        }
-        i += 1;
+    let mut well = well_head(count, table.supply);
+    let mut k = 0;
+    while well & (k < n) {
+        let port = table.ports[k];
+        well = well_port(port);
+        k += 1;
     }
-    true
+    well
 }

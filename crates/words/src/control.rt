@@ -121,19 +121,13 @@ pub fn word_of(control: Control) -> u16
     enable_code(enable) + 4 * pair_code(pair) + 16 * priority_code(priority)
 }
 
+// Bit w is set if the word w, of those below 64, has a reserved code: enable 11, or pair control 00 or 11.
+// So a word is told with no branch, as it is asked of 48 ports in every tick.
+const REFUSED: u64 = 0xf88f_f88f_f88f_f88f;
+
 // A write of a word is refused with 3. The number may be wider than a word: what stands above bit 15 is reserved too.
 pub fn refused(word: u64) -> bool
     ensures { λ r. ⌜ r ≡ refused word ⌝ }
 {
-    if 64 <= word {
-        return true;
-    }
-    if word % 4 == 3 {
-        return true;
-    }
-    let pair = word / 4 % 4;
-    if pair == 1 {
-        return false;
-    }
-    pair != 2
+    (64 <= word) | ((REFUSED >> (word % 64)) % 2 == 1)
 }

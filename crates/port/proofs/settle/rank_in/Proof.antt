@@ -1,4 +1,4 @@
--- `rank_in` is `rankIn`: closed before and still, or asking, or neither.
+-- `rank_in` is `rankIn`: closed, or asking, or neither.
 -- Assumes nothing.
 use mathlib.Core.Path.{sym, _∙_}
 use borrow.Author.Needs.{needs}
@@ -14,7 +14,7 @@ rank-in-spec =
     (λ c κs. search needs)
     (λ c κs. search needs)
     (λ c κs. search needs)
-    (λ c. simp (sym (c .before .holds .ensures) ∙ c .if1 .taken, c .before .before .urgency-of .ensures .0, c .before .before .before .priority-of .ensures))
+    (λ c. simp (sym (c .before .is-closed .ensures) ∙ c .if1 .taken, c .before .before .urgency-of .ensures .0, c .before .before .before .priority-of .ensures))
     (λ c. search needs)
-    (λ c. simp (sym (c .before .before .holds .ensures) ∙ c .before .if1 .left, c .if2 .taken, c .before .before .before .urgency-of .ensures .0, c .before .before .before .before .priority-of .ensures))
-    (λ c. simp (sym (c .before .before .holds .ensures) ∙ c .before .if1 .left, c .if2 .left)))
+    (λ c. simp (sym (c .before .before .is-closed .ensures) ∙ c .before .if1 .left, c .if2 .taken, c .before .before .before .urgency-of .ensures .0, c .before .before .before .before .priority-of .ensures))
+    (λ c. simp (sym (c .before .before .is-closed .ensures) ∙ c .before .if1 .left, c .if2 .left)))

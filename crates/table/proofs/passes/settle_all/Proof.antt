@@ -21,14 +21,14 @@ abbrev settling : Table → List ℕ → List Bool → ℕ → Port
 settling t ranks kept p = settledAs (getD ranks p 0) (getD kept p false) (portAt t p)
 
 abbrev Inv-loop : tie.InvT-loop
-Inv-loop supply ranks kept n after₀ k₀ after k =
-    (k ≤ n) × Filled noPort (settling after₀ ranks kept) (after₀ .ports) k (after .ports) × (after .count ≡ after₀ .count)
+Inv-loop supply table₀ ranks kept n k₀ table k =
+    (k ≤ n) × Filled noPort (settling table₀ ranks kept) (table₀ .ports) k (table .ports) × (table .count ≡ table₀ .count)
 
 abbrev μ-loop : tie.MeasureT-loop
-μ-loop supply ranks kept n after₀ k₀ after k = n - k
+μ-loop supply table₀ ranks kept n k₀ table k = n - k
 
-long : (c : tie.Start Inv-loop μ-loop) → length (c .args .table .ports) ≡ 48
-long c = sym (length-map (c .args .table .ports) _) ∙ c .good .0 .1 .1 .0 .1 .0 .1
+long : (c : tie.Start Inv-loop μ-loop) → length (c .args .t1 .ports) ≡ 48
+long c = sym (length-map (c .args .t1 .ports) _) ∙ c .good .0 .1 .1 .0 .1 .0 .1
 
 pub settle-all-spec : {M : Type 1} → statement M
 unfolding settledAll portAt
@@ -49,20 +49,20 @@ settle-all-spec =
     (λ c. omega arith)
     (λ c. omega arith)
     (λ c.
-    let s = c .before .before .before .before .before in
+    let s = c .before .before .before .before in
     let l = c .before .before .before .loop in (
       omega arith,
-      filled-more noPort (settling (s .args .table) (s .args .t2) (s .args .t3)) (s .args .table .ports) (l .k) (l .after .ports) (c .settled-port .result) (l .inv .1)
+      filled-more noPort (settling (s .args .t1) (s .args .t2) (s .args .t3)) (s .args .t1 .ports) (l .k) (l .table .ports) (c .settled-port .result) (l .inv .1)
           (omega (arith, long s)) (c .settled-port .ensures ∙ ap (settledAs (getD (s .args .t2) (l .k) 0) (getD (s .args .t3) (l .k) false)) (l .inv .1 .left (l .k) (le-refl (l .k)))),
       l .inv .2,
     ))
     (λ c.
-    let s = c .before .before .before in
+    let s = c .before .before in
     let l = c .before .loop in
-    let e : l .k ≡ s .args .table .count = le-antisymm (l .inv .0) (c .loop-test .left) in
+    let e : l .k ≡ s .args .t1 .count = le-antisymm (l .inv .0) (c .loop-test .left) in
     λ k.
     record {
-      ports = filled-below noPort (settling (s .args .table) (s .args .t2) (s .args .t3)) (s .args .table .ports) 48 (s .args .table .count) (l .after .ports) (long s) (rw e at (l .inv .1)) k;
+      ports = filled-below noPort (settling (s .args .t1) (s .args .t2) (s .args .t3)) (s .args .t1 .ports) 48 (s .args .t1 .count) (l .table .ports) (long s) (rw e at (l .inv .1)) k;
       count = l .inv .2 k;
       supply = s .args .supply;
     }))

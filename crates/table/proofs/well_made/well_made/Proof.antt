@@ -1,61 +1,39 @@
--- `well_made` is `wellMade`: the loop has seen that every port below i is well-made.
+-- `well_made` is `wellMade`: the ports below k have been tested, and no further than one that did not pass.
 -- Assumes nothing.
-use mathlib.Core.Path.{_≡_, refl, sym, _∙_, ap, ap₂}
-use mathlib.Core.Bool.{Bool, true, _&&_}
-use Prim.Native.Nat.{ℕ, _≤_, _-_}
-use native.Mathlib.Nat.{le-antisymm}
+use Prim.Native.Nat.{_≤_, _-_}
 use native.Mathlib.Omega.{arith}
-use lib.ListN.{length-map}
 use borrow.Author.Needs.{needs}
-use borrow.Author.Tests.{le-leb, lt-leb, not-true, not-false}
-use Rattle.lists.specs.Every.{every, every-next, every-not}
+use Rattle.lists.specs.Tests.{and-left}
 use Rattle.table.specs.Form.{portAt}
-use Rattle.table.specs.WellMade.{wellPort, wellMade}
+use Rattle.table.proofs.Checking.{Checked, checked-none, checked-more, in-reach as reach, below-count as under, checked-all}
 use Rattle.table.proofs.well_made.well_made.Statement.{statement}
 use Rattle.table.proofs.well_made.well_made.Tie as tie
 
 abbrev Inv-loop : tie.InvT-loop
-Inv-loop table count n i₀ i = (i ≤ n) × (every i (λ p. wellPort (portAt table p)) ≡ true)
+Inv-loop table count n well₀ k₀ well k = (k ≤ n) × Checked table k well
 
 abbrev μ-loop : tie.MeasureT-loop
-μ-loop table count n i₀ i = n - i
+μ-loop table count n well₀ k₀ well k = n - k
 
 pub well-made-spec : {M : Type 1} → statement M
-unfolding wellMade every portAt
+unfolding portAt
 well-made-spec =
     tie.close
     (tie.spec
     Inv-loop
     μ-loop
-    (λ c. simp (lt-leb _ _ (c .if1 .taken)))
-    (λ c. simp (le-leb _ _ (c .before .if1 .left), lt-leb _ _ (c .if2 .taken)))
-    (λ c κs. search needs)
-    (λ c. simp (le-leb _ _ (c .before .before .before .before .if1 .left), le-leb _ _ (c .before .before .before .if2 .left), sym (c .before .at-most .ensures) ∙ not-true (c .before .at-most .result) (c .if3 .taken)))
     (λ c. search needs)
-    (λ c. (search needs, refl))
-    (λ c. omega arith)
-    (λ c. omega arith)
     (λ c κs. search needs)
+    (λ c. (search needs, checked-none (c .before .before .args .t1) (c .well-head .result) (c .well-head .ensures)))
+    (λ c. omega (arith, reach (c .before .before .before .before .args .t1) (c .before .loop .k) (c .before .loop .well) (c .before .loop .inv .1) (c .loop-test .taken)))
+    (λ c. reach (c .before .before .before .before .args .t1) (c .before .loop .k) (c .before .loop .well) (c .before .loop .inv .1) (c .loop-test .taken))
+    (λ c κs. search needs)
+    (λ c. omega (arith, under (c .before .before .before .loop .well) (c .before .before .before .loop .k) (c .before .before .before .before .before .before .args .t1 .count) (c .before .before .loop-test .taken)))
+    (λ c. omega (arith, under (c .before .before .before .loop .well) (c .before .before .before .loop .k) (c .before .before .before .before .before .before .args .t1 .count) (c .before .before .loop-test .taken)))
     (λ c.
-    let f : ℕ → Bool = λ p. wellPort (portAt (c .before .before .before .before .before .before .before .before .before .before .args .t1) p) in
-    simp (
-      le-leb _ _ (c .before .before .before .before .before .before .before .before .before .if1 .left),
-      le-leb _ _ (c .before .before .before .before .before .before .before .before .if2 .left),
-      sym (c .before .before .before .before .before .before .at-most .ensures) ∙ not-false (c .before .before .before .before .before .before .at-most .result) (c .before .before .before .before .before .if3 .left),
-      every-not (c .before .before .before .before .before .before .before .before .before .before .args .t1 .count) f (c .before .before .before .before .loop .i) (c .before .before .before .loop-test .taken) (sym (c .before .well-port .ensures) ∙ not-true (c .before .well-port .result) (c .if4 .taken)),
+    let l = c .before .before .before .loop in
+    let taken = c .before .before .loop-test .taken in (
+      omega (arith, under (l .well) (l .k) (c .before .before .before .before .before .before .args .t1 .count) taken),
+      checked-more (c .before .before .before .before .before .before .args .t1) (l .k) (l .well) (c .well-port .result) (l .inv .1) (and-left (l .well) _ taken) (c .well-port .ensures),
     ))
-    (λ c. omega arith)
-    (λ c. omega arith)
-    (λ c. (
-      omega arith,
-      every-next (c .before .before .before .before .loop .i) _ ∙ ap₂ _&&_ (c .before .before .before .before .loop .inv .1) (sym (c .before .well-port .ensures) ∙ not-false (c .before .well-port .result) (c .if4 .left)),
-    ))
-    (λ c.
-    let f : ℕ → Bool = λ p. wellPort (portAt (c .before .before .before .before .before .before .before .args .t1) p) in
-    let e : every (c .before .before .before .before .before .before .before .args .t1 .count) f ≡ true = ap (λ (k : ℕ). every k f) (le-antisymm (c .loop-test .left) (c .before .loop .inv .0)) ∙ c .before .loop .inv .1 in
-    simp (
-      le-leb _ _ (c .before .before .before .before .before .before .if1 .left),
-      le-leb _ _ (c .before .before .before .before .before .if2 .left),
-      sym (c .before .before .before .at-most .ensures) ∙ not-false (c .before .before .before .at-most .result) (c .before .before .if3 .left),
-      e,
-    )))
+    (λ c. checked-all (c .before .before .before .before .args .t1) (c .before .loop .k) (c .before .loop .well) (c .before .loop .inv .1) (c .before .loop .inv .0) (c .loop-test .left)))

@@ -1,19 +1,30 @@
--- `refused` is `refused`: the tests that led to each answer decide the definition's, in the same order.
+-- `refused` is `refused`: from 64 on both refuse every word, and below it the checker computes both at each word.
 -- Assumes nothing.
-use native.Mathlib.Nat.{div-one}
-use native.Mathlib.Omega.{arith}
-use borrow.Author.Tests.{le-leb, lt-leb, eq-eqb, ne-eqb}
+use Prim.Native.Nat.{ℕ, _/_, _%_, _^_}
+use mathlib.Core.Path.{_≡_, refl}
+use mathlib.Core.Bool.{Bool, _||_}
+use mathlib.Core.Logic.{⊎-elim}
+use lib.Dec.{leb, eqb}
+use borrow.Author.Needs.{needs}
+use borrow.Author.Tests.{le-leb}
 use Rattle.lists.specs.Bits.{field, above}
+use Rattle.lists.specs.Places.{side, tabulate, tabulate-at}
 use Rattle.words.specs.Control.{refused}
 use Rattle.words.proofs.control.refused.Statement.{statement}
 use Rattle.words.proofs.control.refused.Tie as tie
 
+-- from here on a bit above bit 5 is set
+abbrev limit : ℕ
+limit = 64
+
+-- what the code says of a word by its mask
+abbrev said : ℕ → ℕ → Bool
+said mask word = leb limit word || eqb (mask / 2 ^ (word % 64) % 2) 1
+
+said-refused : (mask : ℕ) → tabulate limit (said mask) ≡ tabulate limit refused → (word : ℕ) → said mask word ≡ refused word
+unfolding refused above
+said-refused mask e word = ⊎-elim (tabulate-at limit (said mask) refused e word) (λ h. simp (le-leb limit word h)) (side word limit)
+
 pub refused-spec : {M : Type 1} → statement M
-unfolding refused field above
-refused-spec =
-    tie.close
-    (tie.spec
-    (λ c. simp (le-leb _ _ (c .if1 .taken)))
-    (λ c. simp (div-one, lt-leb _ _ (c .before .if1 .left), eq-eqb _ _ (c .if2 .taken)))
-    (λ c. simp (div-one, lt-leb _ _ (c .before .before .if1 .left), ne-eqb _ _ (c .before .if2 .left), eq-eqb _ _ (c .if3 .taken)))
-    (λ c. simp (div-one, lt-leb _ _ (c .before .before .if1 .left), ne-eqb _ _ (c .before .if2 .left), ne-eqb _ _ (c .if3 .left))))
+unfolding refused above field tabulate
+refused-spec = tie.close (tie.spec (λ c. search needs) (λ c. said-refused _ refl (c .args .word)))

@@ -7,8 +7,8 @@ use native.Mathlib.Omega.{arith}
 use lib.Dec.{lit<}
 use lib.Pow.{shl-exact, pow-mono}
 use borrow.Author.Needs.{needs}
-use Rattle.table.proofs.masks.marked.Statement.{statement}
-use Rattle.table.proofs.masks.marked.Tie as tie
+use Rattle.table.proofs.tally.marked.Statement.{statement}
+use Rattle.table.proofs.tally.marked.Tie as tie
 
 -- a bit below 48 does not leave 64 bits
 bit-fits : (at : ℕ) → at < 48 → (1 * 2 ^ at) % 2 ^ 64 ≡ 1 * 2 ^ at

@@ -11,8 +11,8 @@ use Rattle.reading.specs.declared.sample.Sample.{Sample}
 use Rattle.reading.specs.declared.sample.Sampled.{Sampled}
 use Rattle.reading.specs.declared.sample.Sampled.the-variants.{Is, Cut}
 use denote.Ref.{now}
-use Rattle.table.proofs.passes.sample.Statement.{statement}
-use Rattle.table.proofs.passes.sample.Tie as tie
+use Rattle.table.proofs.block.sample.Statement.{statement}
+use Rattle.table.proofs.block.sample.Tie as tie
 
 abbrev got : Sampled → Sample → Sample
 got (Is s) d = s
