@@ -59,9 +59,12 @@ pub fn budget(class: u8) -> Power
     }
 }
 
-// The half of each demand, in a byte whose place is that half modulo 8: no two demands share a place, and a place that none has is 0.
+// Half of each budget, in the byte that this half modulo 8 names: no two budgets share a byte, and a byte that none has is 0.
 // So a demand is told with no branch, as it is asked of 48 ports in every tick.
-const HALVES: u64 = 0x00_96_4d_14_23_00_00_00;
+const HALVES: u64 = ((BUDGETS[1] as u64 / 2) << (BUDGETS[1] / 2 % 8 * 8))
+    + ((BUDGETS[2] as u64 / 2) << (BUDGETS[2] / 2 % 8 * 8))
+    + ((BUDGETS[3] as u64 / 2) << (BUDGETS[3] / 2 % 8 * 8))
+    + ((BUDGETS[4] as u64 / 2) << (BUDGETS[4] / 2 % 8 * 8));
 
 // A demand that a port of a well-made table may have: none, or a class's budget.
 pub fn is_demand(demand: Power) -> bool
