@@ -124,6 +124,16 @@ fn power_up(enable: Enable, signs: Signs, counts: Counts) -> Glance
 fn power_on(enable: Enable, signs: Signs, counts: Counts) -> Glance
     ensures { λ r. ⌜ r ≡ quickPowerOn enable signs counts ⌝ }
 {
+    // With its load and no fault a port counts nothing, which its flags alone tell.
+    if signs.load & !signs.limiting & !signs.overload {
+        let none = Counts {
+            limiting: 0,
+            overload: 0,
+            no_load: 0,
+            ..counts
+        };
+        return only(is_on(enable), none);
+    }
     let ticks = during(!signs.load, counts.no_load);
     let ends = rules::LOAD_ABSENT <= ticks;
     let stress = stressed(signs, counts);

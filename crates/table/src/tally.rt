@@ -7,7 +7,6 @@ use words::control::Pair;
 use words::control::pair_of;
 ghost use mathlib.Core.Path.{_≡_};
 ghost use Prim.Native.Nat.{_+_, _≤_, _<_, _^_};
-ghost use Rattle.lists.specs.Bits.{place};
 ghost use Rattle.table.specs.Tick.{namesA, namesB};
 ghost use Rattle.table.specs.Tally.{talliedBy, tallyOf};
 
@@ -50,11 +49,11 @@ fn names_b(pair: Pair) -> bool
 }
 
 // The mask with a bit more, above all that it has.
-fn marked(mask: u64, at: usize, on: bool) -> u64
+fn marked(mask: u64, at: usize) -> u64
     requires { ⌜ (mask < 2 ^ at) × (at < 48) ⌝ }
-    ensures { λ r. ⌜ r ≡ mask + place at on ⌝ }
+    ensures { λ r. ⌜ r ≡ mask + 2 ^ at ⌝ }
 {
-    if on { mask + (1u64 << at) } else { mask }
+    mask + (1u64 << at)
 }
 
 // The port at the next place is taken in.
@@ -68,9 +67,15 @@ pub fn tallied(tally: Tally, at: usize, port: Port) -> Tally
     }
     let drawn = tally.drawn.plus(port.demand);
     let pair = pair_of(port.control);
-    let a = marked(tally.a, at, names_a(pair));
-    let b = marked(tally.b, at, names_b(pair));
-    Tally { drawn, a, b }
+    if names_a(pair) {
+        let a = marked(tally.a, at);
+        return Tally { drawn, a, ..tally };
+    }
+    if names_b(pair) {
+        let b = marked(tally.b, at);
+        return Tally { drawn, b, ..tally };
+    }
+    Tally { drawn, ..tally }
 }
 
 pub fn tally_of(table: Table) -> Tally

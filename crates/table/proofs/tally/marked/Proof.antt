@@ -2,7 +2,6 @@
 -- Assumes nothing.
 use mathlib.Core.Path.{_≡_, sym, _∙_, ap}
 use Prim.Native.Nat.{ℕ, _+_, _*_, _%_, _^_, _≤_, _<_}
-use native.Mathlib.Nat.{zero-mul, add-zero}
 use native.Mathlib.Omega.{arith}
 use lib.Dec.{lit<}
 use lib.Pow.{shl-exact, pow-mono}
@@ -22,6 +21,5 @@ marked-spec =
     tie.close
     (tie.spec
     (λ c. search needs)
-    (λ c. omega (arith, bit-fits (c .before .args .at) (c .before .pre .1), room (c .before .args .at) (c .before .pre .1)))
-    (λ c. simp (c .if1 .taken, bit-fits (c .before .args .at) (c .before .pre .1)))
-    (λ c. simp (c .if1 .left, zero-mul, add-zero)))
+    (λ c. omega (arith, bit-fits (c .args .at) (c .pre .1), room (c .args .at) (c .pre .1)))
+    (λ c. omega (arith, bit-fits (c .args .at) (c .pre .1))))
