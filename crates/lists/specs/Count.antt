@@ -4,10 +4,10 @@ use mathlib.Core.Path.{_≡_, refl, sym, _∙_, ap, ap₂}
 use mathlib.Core.Bool.{Bool, true, false, _||_, _&&_, false≢true}
 use mathlib.Core.Logic.{⊎-elim}
 use Prim.Native.Nat.{ℕ, zero, suc, _+_, _-_, _*_, _/_, _%_, _^_, _≤_, _<_}
-use native.Mathlib.Nat.{add-comm, mul-assoc, pow-zero, le-of-suc-le-suc, eq-or-lt-of-le, not-suc-le-zero, sub-add-cancel, add-mul-mod-self-right, div-eq-of-lt, lt-of-lt-of-le, le-refl, zero-mul}
+use native.Mathlib.Nat.{add-comm, mul-assoc, le-of-suc-le-suc, eq-or-lt-of-le, not-suc-le-zero, sub-add-cancel, add-mul-mod-self-right, div-eq-of-lt, lt-of-lt-of-le, zero-mul}
 use native.Mathlib.Omega.{arith}
 use lib.Dec.{eqb}
-use lib.Pow.{pow-add, pow-mono, add-lt-pow, high, field}
+use lib.Pow.{pow-add, pow-mono, high, field}
 use lib.Count.{ones, ones-cat}
 use Rattle.lists.specs.Bits.{bit, one, place}
 use Rattle.lists.specs.Total.{total, total-next, total-cong, total-plus, total-less}

@@ -2,7 +2,7 @@
 -- says that the two agree. Limits and counting are those of `Rules` and `Entry`.
 -- Assumes nothing.
 use Prim.Native.Nat.{ℕ}
-use mathlib.Core.Path.{_≡_, refl, sym, _∙_, ap, ap₂}
+use mathlib.Core.Path.{_≡_, refl, _∙_, ap}
 use mathlib.Core.Bool.{Bool, true, false, cond, not, _&&_, false≢true, and-false}
 use native.Mathlib.Omega.{arith}
 use borrow.Author.Tests.{not-true, eqb-true}
@@ -26,7 +26,7 @@ use Rattle.port.specs.declared.quick.Glance.{Glance}
 use Rattle.port.specs.declared.quick.Glance.the-variants.{Counted, Whole}
 use Rattle.port.specs.declared.quick.Signs.{Signs}
 use Rattle.port.specs.Form.{withCounts, detectionAt, backoffAt, errorDelayAt, powerOnAt, limitingAt, overloadAt, noLoadAt, quietly}
-use Rattle.port.specs.Entry.{up, during, enterDisabled, enterIdle}
+use Rattle.port.specs.Entry.{up, during, enterDisabled}
 use Rattle.port.specs.Rules.{isOff, isOn, isForced, detectingEnds, backoffEnds, errorDelayEnds, classifyingEnds, powerUpEnds, faultBy, loadAbsent, detected, detecting, backoff, errorDelay, classed, classifying, stressed, watched, risen, powerUp, powerOn, testMode, testError}
 use Rattle.port.specs.Step.{givesWay, byState, step}
 

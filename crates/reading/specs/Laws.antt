@@ -2,8 +2,8 @@
 -- Assumes nothing.
 use Prim.Native.Nat.{ℕ}
 use mathlib.Core.Path.{_≡_, refl}
-use mathlib.Core.Bool.{Bool, true, false, cond}
-use lib.Dec.{leb, eqb}
+use mathlib.Core.Bool.{Bool, true}
+use lib.Dec.{leb}
 use Rattle.lists.specs.Table.{all, some, entry-or}
 use Rattle.lists.specs.Tests.{choice}
 use Rattle.power.specs.Power.{tenths}

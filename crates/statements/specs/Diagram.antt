@@ -1,30 +1,21 @@
 -- What the port's diagram and the settling never do, for the third statement: a move closes no port by itself; a shed port is open;
 -- a port that stays closed draws what it claimed.
 -- Assumes nothing.
-use Prim.Native.Nat.{ℕ, _+_, _≤_, _<_}
-use mathlib.Core.Path.{_≡_, refl, sym, _∙_, ap}
-use mathlib.Core.Bool.{Bool, true, false, cond, not, _&&_, false≢true}
+use Prim.Native.Nat.{ℕ, _≤_}
+use mathlib.Core.Path.{_≡_, refl}
+use mathlib.Core.Bool.{Bool, true, false}
 use native.Mathlib.Omega.{arith}
 use native.Mathlib.Nat.{le-refl}
 use lib.Dec.{leb}
 use borrow.Author.Tests.{leb-true}
 use Rattle.lists.specs.Tests.{choice}
-use Rattle.power.specs.declared.Power.{Power}
-use Rattle.words.specs.Control.{enableOf, pairOf, priorityOf}
+use Rattle.words.specs.Control.{priorityOf}
 use Rattle.words.specs.declared.control.Priority.{Priority}
 use Rattle.words.specs.declared.control.Priority.the-variants.{Unknown, Critical, High, Low}
-use Rattle.port.specs.Form.{withCounts, detectionAt, backoffAt, errorDelayAt, powerOnAt, quietly}
-use Rattle.port.specs.Entry.{up, enterIdle, enterDisabled, enterDetecting, enterBackoff, enterErrorDelay, enterClassifying, enterPowerUp, enterPowerOn, enterTestMode, enterTestError}
-use Rattle.port.specs.Rules.{isOff, isOn, isForced, isB, idle, detected, detecting, backoff, errorDelay, classed, classifying, testError}
-use Rattle.port.specs.Settle.{closed, urgency, rank, granted, inTest, shed, settled}
-use Rattle.port.specs.Step.{givesWay, byState, step}
-use Rattle.port.specs.declared.form.Classing.{Classing}
-use Rattle.port.specs.declared.form.Classing.the-variants.{NotDone as NotClassed, Failed, Is as Classed}
-use Rattle.port.specs.declared.form.Detection.{Detection}
-use Rattle.port.specs.declared.form.Detection.the-variants.{NotDone, Valid, Invalid, Open}
+use Rattle.port.specs.Entry.{enterIdle, enterPowerUp, enterTestMode, enterTestError}
+use Rattle.port.specs.Settle.{closed, urgency, rank, granted, inTest, shed}
 use Rattle.port.specs.declared.form.Moved.{Moved}
 use Rattle.port.specs.declared.form.Port.{Port}
-use Rattle.port.specs.declared.form.Reading.{Reading}
 use Rattle.port.specs.declared.form.State.{State}
 use Rattle.port.specs.declared.form.State.the-variants.{Disabled, Idle, Detecting, Backoff, Classifying, PowerUp, PowerOn, ErrorDelay, TestMode, TestError}
 use Rattle.table.specs.Calls.{draws}

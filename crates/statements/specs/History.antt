@@ -3,7 +3,6 @@
 use Prim.Native.Nat.{ℕ, _*_}
 use mathlib.Core.Bool.{Bool, true, false, cond, _&&_}
 use mathlib.Core.List.{List, [], _∷_}
-use lib.Dec.{ltb, leb}
 use Rattle.reading.specs.Class.{classOfTwo}
 use Rattle.reading.specs.Sample.{sampleAt, flagsOf}
 use Rattle.reading.specs.Signature.{signatureOf}

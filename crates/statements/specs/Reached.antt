@@ -2,20 +2,17 @@
 -- Assumes nothing.
 use Prim.Native.Nat.{ℕ, zero, suc, _*_, _≤_, _<_}
 use mathlib.Core.Path.{_≡_, refl, sym, _∙_, ap, subst}
-use mathlib.Core.Bool.{Bool, true, false, cond, not, _&&_, _||_, false≢true}
+use mathlib.Core.Bool.{Bool, true, false, cond, _&&_, _||_}
 use mathlib.Core.List.{List, [], _∷_}
 use mathlib.Core.Logic.{_⊎_, inl, inr, ⊎-elim}
 use native.Mathlib.Omega.{arith}
 use lib.Dec.{leb, ltb, eqb}
 use lib.ListN.{length, getD, set, getD-replicate}
 use borrow.Author.Tests.{ltb-true, leb-true, le-leb, lt-ltb}
-use Rattle.lists.specs.Places.{getD-tabulate}
-use Rattle.lists.specs.Tests.{and-left, and-right, choice-on}
+use Rattle.lists.specs.Tests.{choice-on}
 use Rattle.power.specs.Power.{forced, tenths, highestSupply, atMost, fits, sumOf, supplyOf}
-use Rattle.power.specs.declared.Power.{Power}
-use Rattle.power.specs.declared.Supply.{Supply}
 use Rattle.power.specs.declared.Supply.the-variants.{Is, TooLarge}
-use Rattle.reading.specs.Class.{budgetOf, isDemand}
+use Rattle.reading.specs.Class.{budgetOf}
 use Rattle.reading.specs.Laws.{budget-is-demand}
 use Rattle.reading.specs.Sample.{sampleAt}
 use Rattle.words.specs.Control.{refused}
@@ -27,7 +24,7 @@ use Rattle.table.specs.Calls.{coldPort, coldTable, coldStart, inDisabled, sameA
 use Rattle.table.specs.Digest.{digest}
 use Rattle.table.specs.Form.{noPort, portAt, withPort, done, refuse, tells, refuseStatus, refuseTick}
 use Rattle.table.specs.Kept.{after-well, controlled-well, unlatched-well, demanding-well, cold-well, port-after-at}
-use Rattle.table.specs.Laws.{well-count, count-with-port, count-after}
+use Rattle.table.specs.Laws.{well-count, count-after}
 use Rattle.table.specs.Tick.{movedAt, rankAt, keptAt, portAfter, tableAfter, answered, flagsTaken, tickWith, tick}
 use Rattle.table.specs.WellMade.{wellMade}
 use Rattle.table.specs.declared.form.Table.{Table}

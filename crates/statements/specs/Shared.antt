@@ -3,19 +3,18 @@
 -- Assumes nothing.
 use Prim.Native.Nat.{ℕ, _*_, _≤_, _<_}
 use mathlib.Core.Path.{_≡_, refl, sym, _∙_, ap}
-use mathlib.Core.Bool.{Bool, true, false, cond, not, _&&_, false≢true}
+use mathlib.Core.Bool.{Bool, true, false, cond, false≢true}
 use mathlib.Core.List.{List}
-use native.Mathlib.Nat.{le-refl, le-trans, le-of-eq}
+use native.Mathlib.Nat.{le-trans, le-of-eq}
 use native.Mathlib.Omega.{arith}
 use lib.Dec.{leb, ltb}
 use borrow.Author.Tests.{lt-ltb, ltb-true}
 use Rattle.lists.specs.Tests.{and-left, and-right, choice}
-use Rattle.lists.specs.Total.{total, total-mono, total-fewer}
+use Rattle.lists.specs.Total.{total-mono, total-fewer}
 use Rattle.power.specs.Power.{forced}
 use Rattle.power.specs.declared.Power.{Power}
 use Rattle.reading.specs.Sample.{sampleAt}
-use Rattle.port.specs.Settle.{closed, rank, granted, shed, settled}
-use Rattle.port.specs.Step.{step}
+use Rattle.port.specs.Settle.{closed, granted, shed, settled}
 use Rattle.port.specs.declared.form.Moved.{Moved}
 use Rattle.port.specs.declared.form.Port.{Port}
 use Rattle.share.specs.Laws.{more-keeps, kept-sum-fits}
@@ -24,9 +23,8 @@ use Rattle.table.specs.Calls.{draws, closedSum}
 use Rattle.table.specs.Digest.{digest}
 use Rattle.table.specs.Form.{portAt}
 use Rattle.table.specs.Kept.{port-after-at}
-use Rattle.table.specs.Laws.{count-after, well-count}
+use Rattle.table.specs.Laws.{count-after}
 use Rattle.table.specs.Tick.{movedAt, rankAt, claimAt, keptAt, portAfter, tableAfter, closedAt}
-use Rattle.table.specs.WellMade.{wellMade}
 use Rattle.table.specs.declared.form.Table.{Table}
 use Rattle.port.specs.Open.{open-stays}
 use Rattle.statements.specs.Diagram.{shed-open, granted-demand, draws-at-most, draws-open, no-claim-open}

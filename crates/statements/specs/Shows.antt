@@ -2,7 +2,7 @@
 -- settling keeps this, for the third statement.
 -- Assumes nothing.
 use Prim.Native.Nat.{ℕ}
-use mathlib.Core.Path.{_≡_, refl, sym, _∙_, ap, subst}
+use mathlib.Core.Path.{_≡_, refl, sym, subst}
 use mathlib.Core.Bool.{Bool, true, false, cond, not, _&&_, false≢true}
 use lib.Dec.{leb}
 use Rattle.lists.specs.Bits.{bit}

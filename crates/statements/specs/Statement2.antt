@@ -7,11 +7,9 @@ use mathlib.Core.Bool.{true, _&&_, false≢true}
 use mathlib.Core.List.{List}
 use mathlib.Core.Logic.{⊎-elim}
 use native.Mathlib.Omega.{arith}
-use lib.Count.{ones}
-use lib.Dec.{ltb}
 use borrow.Author.Tests.{lt-ltb, le-ltb}
 use Rattle.lists.specs.Bits.{bit}
-use Rattle.lists.specs.Count.{mask, count, bit-mask}
+use Rattle.lists.specs.Count.{count, bit-mask}
 use Rattle.power.specs.Power.{tenths, forced}
 use Rattle.power.specs.declared.Power.{Power}
 use Rattle.reading.specs.Sample.{sampleAt}
@@ -19,7 +17,6 @@ use Rattle.words.specs.Control.{pairOf}
 use Rattle.port.specs.Settle.{rank, settled}
 use Rattle.port.specs.Step.{step}
 use Rattle.port.specs.declared.form.Moved.{Moved}
-use Rattle.port.specs.declared.form.Port.{Port}
 use Rattle.share.specs.Share.{keeps}
 use Rattle.table.specs.Digest.{digest}
 use Rattle.table.specs.Form.{portAt}
@@ -28,7 +25,7 @@ use Rattle.table.specs.Laws.{well-count, count-after}
 use Rattle.table.specs.Tick.{movedAt, rankAt, claimAt, keptAt, portAfter, tableAfter, closedAt, namesA, namesB, maskA, maskB, answered, tick}
 use Rattle.table.specs.WellMade.{wellMade}
 use Rattle.table.specs.declared.form.Closed.{Closed}
-use Rattle.table.specs.declared.form.Closed.the-variants.{Ports, Refused}
+use Rattle.table.specs.declared.form.Closed.the-variants.{Ports}
 use Rattle.table.specs.declared.form.Table.{Table}
 use Rattle.table.specs.declared.form.Ticked.{Ticked}
 use Rattle.tlv.specs.Laws.{WrittenReads, ReadRewrites, FoundPower, TakenPower}

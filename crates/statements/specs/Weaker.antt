@@ -4,7 +4,7 @@
 -- Assumes nothing.
 use Prim.Native.Nat.{ℕ, _≤_}
 use mathlib.Core.Path.{_≡_, refl, sym, _∙_, subst}
-use mathlib.Core.Bool.{Bool, true, false, false≢true}
+use mathlib.Core.Bool.{true, false, false≢true}
 use mathlib.Core.List.{List, [], _∷_}
 use native.Mathlib.Omega.{arith}
 use Rattle.lists.specs.Bits.{bit, above, field}
@@ -18,7 +18,6 @@ use Rattle.reading.specs.Sample.{wordAt, sampleAt, reservedFlags, flagsOf}
 use Rattle.reading.specs.declared.sample.Sample.{Sample}
 use Rattle.reading.specs.Signature.{outside, byDifferences, signatureOf}
 use Rattle.words.specs.Control.{enableOf, pairOf, priorityOf, refused}
-use Rattle.words.specs.Status.{join}
 use Rattle.port.specs.Entry.{up, enterIdle, enterDetecting, enterClassifying, enterPowerUp}
 use Rattle.port.specs.Rules.{idle, detected, detecting, classed, classifying}
 use Rattle.port.specs.Settle.{rank, granted, shed, settled}
@@ -26,11 +25,11 @@ use Rattle.port.specs.Step.{byState, step}
 use Rattle.share.specs.Share.{claims, before, met, sumWhere, down, keeps}
 use Rattle.table.specs.Calls.{coldTable, coldStart, writeControl, controlled, withControl, draws, closedSum}
 use Rattle.table.specs.Digest.{digest}
-use Rattle.table.specs.Form.{portAt, withPort, done, refuse, refuseTick}
+use Rattle.table.specs.Form.{portAt, withPort, done}
 use Rattle.table.specs.Tick.{movedAt, rankAt, claimAt, keptAt, portAfter, tableAfter, closedAt, flagsTaken, tickWith, answered, tick}
 use Rattle.table.specs.declared.form.Table.{Table}
 use Rattle.table.specs.WellMade.{wellCounts, wellPort, wellMade}
-use Rattle.statements.specs.History.{Call, control, ticked, after, reached, isIdle, showsSignature, givesClass, Shown, nothing, signature, both, seen, adds, shown}
+use Rattle.statements.specs.History.{Call, control, ticked, after, reached, isIdle, showsSignature, givesClass, nothing, signature, both, seen, adds, shown}
 
 -- no flag; a valid signature; class 1
 unfoldable pub quiet : List ℕ

@@ -9,7 +9,6 @@ use lib.Dec.{leb, eqb}
 use lib.ListN.{length}
 use borrow.Author.Tests.{eqb-true, leb-true}
 use Rattle.power.specs.Power.{tenths, supplyOf}
-use Rattle.power.specs.declared.Supply.{Supply}
 use Rattle.power.specs.declared.Supply.the-variants.{Is, TooLarge}
 use Rattle.table.specs.declared.form.Table.{Table}
 use Rattle.table.specs.declared.form.Ticked.{Ticked}

@@ -1,7 +1,7 @@
 -- The table while its ports move, one after the other: what holds before place i, that it holds after one port more, and what it
 -- comes to at the end. Assumes nothing.
 use mathlib.Core.Path.{_≡_, refl, sym, _∙_, ap, ap₂}
-use mathlib.Core.Bool.{Bool, true, false, cond, not, _&&_}
+use mathlib.Core.Bool.{Bool, true, false, not, _&&_}
 use mathlib.Core.List.{List}
 use Prim.Native.Nat.{ℕ, _+_, _*_, _≤_, _<_, _^_}
 use native.Mathlib.Nat.{le-refl}
@@ -11,11 +11,10 @@ use lib.ListN.{length, getD, set, replicate, length-replicate, getD-replicate}
 use borrow.Author.Tests.{leb-true}
 use Rattle.lists.specs.Count.{mask-below}
 use Rattle.lists.specs.Every.{every, every-next}
-use Rattle.lists.specs.Places.{tabulate, Filled, filled-none, filled-more, filled-kept, filled-below, filled-over}
+use Rattle.lists.specs.Places.{Filled, filled-none, filled-more, filled-kept, filled-below, filled-over}
 use Rattle.lists.specs.Total.{total}
 use Rattle.power.specs.Power.{sumOf, forced, fits}
 use Rattle.power.specs.declared.Power.{Power}
-use Rattle.power.specs.declared.Sum.{Sum}
 use Rattle.reading.specs.Sample.{sampleAt}
 use Rattle.port.specs.Form.{withCounts, quietly}
 use Rattle.port.specs.Quick.{quickly, quick-is-step}
@@ -27,7 +26,6 @@ use Rattle.port.specs.declared.quick.Glance.the-variants.{Counted}
 use Rattle.port.specs.declared.quick.Signs.{Signs}
 use Rattle.table.specs.declared.form.Table.{Table}
 use Rattle.table.specs.declared.form.Closed.the-variants.{Ports}
-use Rattle.table.specs.declared.form.Ticked.{Ticked}
 use Rattle.table.specs.declared.tally.Tally.{Tally}
 use Rattle.table.specs.Calls.{draws}
 use Rattle.table.specs.Digest.{digest, signsIn, signs-in}

@@ -1,24 +1,17 @@
 -- The table by its places, and what its calls answer.
 use Prim.Native.Nat.{ℕ}
-use mathlib.Core.Bool.{Bool, cond}
-use mathlib.Core.List.{List}
-use lib.Dec.{eqb}
 use lib.ListN.{getD, set}
 use Rattle.power.specs.Power.{zeroPower}
-use Rattle.power.specs.declared.Power.{Power}
 use Rattle.words.specs.Status.{noLatches}
 use Rattle.port.specs.declared.form.Counts.{Counts}
 use Rattle.port.specs.declared.form.Port.{Port}
 use Rattle.port.specs.declared.form.State.the-variants.{Disabled}
 use Rattle.table.specs.declared.form.Table.{Table}
-use Rattle.table.specs.declared.form.Answer.{Answer}
 use Rattle.table.specs.declared.form.Answer.the-variants.{Done, Refused}
 use Rattle.table.specs.declared.form.Told.{Told}
-use Rattle.table.specs.declared.form.Status.{Status}
 use Rattle.table.specs.declared.form.Status.the-variants.{Word, Refused as NoStatus}
 use Rattle.table.specs.declared.form.StatusRead.{StatusRead}
-use Rattle.table.specs.declared.form.Closed.{Closed}
-use Rattle.table.specs.declared.form.Closed.the-variants.{Ports, Refused as NoTick}
+use Rattle.table.specs.declared.form.Closed.the-variants.{Refused as NoTick}
 use Rattle.table.specs.declared.form.Ticked.{Ticked}
 
 abbrev pub zeroCounts : Counts

@@ -1,26 +1,25 @@
 -- Well-made tables stay well-made: no call makes an ill-made one. And the number that a tick answers is the number of closed ports.
 -- Assumes nothing.
 use Prim.Native.Nat.{ℕ, zero, suc, _+_, _*_, _≤_, _<_}
-use mathlib.Core.Path.{_≡_, refl, sym, _∙_, ap, ap₂}
-use mathlib.Core.Bool.{Bool, true, false, cond, not, _&&_, _||_, false≢true}
+use mathlib.Core.Path.{_≡_, refl, _∙_, ap, ap₂}
+use mathlib.Core.Bool.{Bool, true, false, not, _&&_, _||_}
 use mathlib.Core.List.{List, [], _∷_}
 use mathlib.Core.Logic.{_⊎_, inl, inr, ⊎-elim}
 use native.Mathlib.Omega.{arith}
 use lib.Count.{ones}
 use lib.Dec.{leb, ltb, eqb}
-use lib.ListN.{length, getD, set, replicate, getD-replicate}
+use lib.ListN.{getD, set, getD-replicate}
 use borrow.Author.Tests.{le-leb, lt-ltb, ltb-true, eqb-true, not-false}
 use Rattle.lists.specs.Bits.{field, above, one, choose}
-use Rattle.lists.specs.Count.{mask, count, ones-mask, count-either}
+use Rattle.lists.specs.Count.{count, ones-mask, count-either}
 use Rattle.lists.specs.Every.{every, every-at, every-of}
-use Rattle.lists.specs.Places.{tabulate, getD-tabulate}
+use Rattle.lists.specs.Places.{getD-tabulate}
 use Rattle.lists.specs.Table.{some}
 use Rattle.lists.specs.Tests.{and-left, and-right, fails-right}
 use Rattle.lists.specs.Total.{total-cong}
-use Rattle.power.specs.Power.{atMost, highestSupply, zeroPower}
+use Rattle.power.specs.Power.{atMost, highestSupply}
 use Rattle.power.specs.declared.Power.{Power}
 use Rattle.reading.specs.Class.{isDemand}
-use Rattle.reading.specs.Laws.{budget-is-demand}
 use Rattle.reading.specs.Sample.{sampleAt}
 use Rattle.words.specs.Control.{refused, pairOf}
 use Rattle.words.specs.declared.control.Pair.{Pair}
@@ -31,7 +30,7 @@ use Rattle.table.specs.declared.form.Table.{Table}
 use Rattle.table.specs.Calls.{coldPort, coldTable, withControl, unlatched, demanding}
 use Rattle.table.specs.Digest.{digest}
 use Rattle.table.specs.Form.{noPort, portAt, withPort}
-use Rattle.table.specs.Laws.{well-count, well-at}
+use Rattle.table.specs.Laws.{well-count}
 use Rattle.table.specs.Tick.{movedAt, rankAt, keptAt, portAfter, tableAfter, closedAt, namesA, namesB, maskA, maskB}
 use Rattle.table.specs.Well.{Well, well-of, well-test, digest-well, step-well, settled-well}
 use Rattle.table.specs.WellMade.{wellCounts, wellPort, wellMade}

@@ -2,11 +2,11 @@
 -- Assumes nothing.
 use Prim.Native.Nat.{ℕ, _≤_, _<_}
 use mathlib.Core.Path.{_≡_, refl}
-use mathlib.Core.Bool.{Bool, true, _&&_}
+use mathlib.Core.Bool.{true}
 use mathlib.Core.List.{List}
 use lib.Dec.{leb}
 use borrow.Author.Tests.{leb-true}
-use Rattle.lists.specs.Every.{every, every-at}
+use Rattle.lists.specs.Every.{every-at}
 use Rattle.lists.specs.Tests.{and-left, and-right}
 use Rattle.power.specs.Power.{atMost, highestSupply}
 use Rattle.power.specs.declared.Power.{Power}

@@ -1,7 +1,7 @@
 -- What the passes of a tick hand to each other. A reader of the tick needs none of this: `tick` and `tableAfter` are its meaning.
 -- Assumes nothing.
 use Prim.Native.Nat.{ℕ, _*_}
-use mathlib.Core.Path.{_≡_, sym, _∙_}
+use mathlib.Core.Path.{_≡_}
 use mathlib.Core.Bool.{Bool, false, cond, not, _&&_, and-assoc}
 use mathlib.Core.List.{List}
 use lib.Dec.{leb, ltb, eqb}

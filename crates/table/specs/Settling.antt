@@ -6,7 +6,7 @@ use mathlib.Core.Path.{_≡_, refl, sym, _∙_, ap, ap₂}
 use mathlib.Core.Bool.{Bool, true, false, cond, not}
 use mathlib.Core.List.{List}
 use mathlib.Core.Logic.{⊎-elim}
-use lib.Dec.{ltb, leb}
+use lib.Dec.{ltb}
 use lib.ListN.{getD}
 use borrow.Author.Tests.{lt-ltb, le-ltb, le-leb, lt-leb, not-true}
 use Rattle.lists.specs.Every.{every, every-at}
@@ -16,7 +16,7 @@ use Rattle.power.specs.Power.{zeroPower, forced}
 use Rattle.power.specs.declared.Power.{Power}
 use Rattle.reading.specs.Sample.{sampleAt}
 use Rattle.port.specs.Claim.{rankIn, rank-in, claims-closed, settledAs, settled-as}
-use Rattle.port.specs.Settle.{closed, rank, settled}
+use Rattle.port.specs.Settle.{rank, settled}
 use Rattle.port.specs.declared.form.Port.{Port}
 use Rattle.share.specs.Given.{rankOf, demandOf, claimsOf, claims-of}
 use Rattle.share.specs.Laws.{all-keep}

@@ -1,11 +1,10 @@
 -- What the closed ports of a table draw, and the masks that name them, as a pass over the places counts them.
 -- Assumes nothing.
 use Prim.Native.Nat.{ℕ, _+_, _*_, _≤_, _<_, _^_}
-use mathlib.Core.Path.{_≡_, refl, sym, _∙_, ap, ap₂}
+use mathlib.Core.Path.{_≡_, refl, sym, _∙_, ap}
 use mathlib.Core.Bool.{Bool, true, false, cond, _&&_}
 use native.Mathlib.Nat.{add-zero}
 use native.Mathlib.Omega.{arith}
-use lib.Dec.{ltb}
 use borrow.Author.Tests.{lt-ltb, le-ltb}
 use Rattle.lists.specs.Bits.{place}
 use Rattle.lists.specs.Count.{mask, mask-next, mask-less, mask-below}
@@ -16,7 +15,7 @@ use Rattle.port.specs.Settle.{closed}
 use Rattle.port.specs.declared.form.Port.{Port}
 use Rattle.table.specs.declared.form.Table.{Table}
 use Rattle.table.specs.declared.tally.Tally.{Tally}
-use Rattle.table.specs.Calls.{draws, closedSum}
+use Rattle.table.specs.Calls.{draws}
 use Rattle.table.specs.Form.{portAt}
 use Rattle.table.specs.Tick.{closedAt, namesA, namesB, maskA, maskB}
 

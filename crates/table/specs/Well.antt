@@ -1,16 +1,15 @@
 -- Well-made ports as facts, and that every move and every settling keeps them: a tick makes no ill-made table.
 -- Assumes nothing.
-use Prim.Native.Nat.{ℕ, _≤_, _<_}
-use mathlib.Core.Path.{_≡_, refl, sym, _∙_, ap, ap₂}
+use Prim.Native.Nat.{ℕ, _≤_}
+use mathlib.Core.Path.{_≡_, refl}
 use mathlib.Core.Bool.{Bool, true, false, cond, not, _&&_}
 use native.Mathlib.Omega.{arith}
 use lib.Dec.{leb}
 use borrow.Author.Tests.{le-leb, leb-true, not-true}
-use Rattle.lists.specs.Table.{all, some}
+use Rattle.lists.specs.Table.{some}
 use Rattle.lists.specs.Tests.{and-left, and-right, choice}
-use Rattle.power.specs.Power.{tenths, zeroPower, forced}
-use Rattle.power.specs.declared.Power.{Power}
-use Rattle.reading.specs.Class.{isDemand, budgetOf, classOfTwo}
+use Rattle.power.specs.Power.{zeroPower, forced}
+use Rattle.reading.specs.Class.{isDemand, classOfTwo}
 use Rattle.reading.specs.Laws.{budget-is-demand, atMostFour, class-of-two-at-most-four}
 use Rattle.reading.specs.declared.class.Class.{Class}
 use Rattle.reading.specs.declared.class.Class.the-variants.{Is, Failure}
@@ -18,7 +17,7 @@ use Rattle.reading.specs.declared.sample.Sample.{Sample}
 use Rattle.reading.specs.Sample.{flagsOf}
 use Rattle.words.specs.Control.{refused, enableOf, pairOf}
 use Rattle.port.specs.Entry.{up, during, enterIdle, enterDisabled, enterDetecting, enterBackoff, enterErrorDelay, enterClassifying, enterPowerUp, enterPowerOn, enterTestMode, enterTestError}
-use Rattle.port.specs.Form.{withClass, withDemand, withCounts, detectionAt, backoffAt, errorDelayAt, powerOnAt, limitingAt, overloadAt, noLoadAt}
+use Rattle.port.specs.Form.{withClass, withCounts, detectionAt, backoffAt, errorDelayAt, powerOnAt, noLoadAt}
 use Rattle.port.specs.Rules.{isOff, isOn, isForced, isB, idle, detected, detecting, backoff, errorDelay, classed, classifying, stressed, watched, risen, powerUp, powerOn, testMode, testError}
 use Rattle.port.specs.Settle.{granted, shed, settled, inTest}
 use Rattle.port.specs.Step.{givesWay, byState, step}

@@ -1,12 +1,12 @@
 -- Both words both ways: a control word is its three fields, and a status word shows every field that went into it.
 -- Assumes nothing.
-use Prim.Native.Nat.{ℕ, zero, suc, _+_, _*_, _/_, _%_, _^_, _<_}
-use mathlib.Core.Path.{_≡_, refl, sym, _∙_, ap, ap₂}
+use Prim.Native.Nat.{ℕ, zero, suc, _/_, _%_, _<_}
+use mathlib.Core.Path.{_≡_, refl, sym, _∙_, ap}
 use mathlib.Core.Bool.{Bool, true, false, _||_, not, false≢true}
 use native.Mathlib.Omega.{arith}
 use lib.Dec.{eqb, leb}
 use borrow.Author.Tests.{lt-leb, leb-false, eq-eqb}
-use Rattle.lists.specs.Bits.{field, bit, above, one, one-small, one-says, choose}
+use Rattle.lists.specs.Bits.{field, bit, above, one-small, one-says, choose}
 use Rattle.words.specs.Control.{enableCode, pairCode, priorityCode, enableOf, pairOf, priorityOf, controlOf, wordOf, refused}
 use Rattle.words.specs.Status.{conditionCode, statusWord}
 use Rattle.words.specs.declared.control.Enable.{Enable}

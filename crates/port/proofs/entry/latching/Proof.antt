@@ -1,7 +1,6 @@
 -- `latching` is `latching`: what was latched before is joined by a call.
 -- Assumes nothing.
 use borrow.Author.Needs.{needs}
-use Rattle.port.specs.Form.{latching}
 use Rattle.port.proofs.entry.latching.Statement.{statement}
 use Rattle.port.proofs.entry.latching.Tie as tie
 

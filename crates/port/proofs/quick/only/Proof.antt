@@ -1,6 +1,5 @@
 -- `only` is `only`.
 -- Assumes nothing.
-use borrow.Author.Needs.{needs}
 use Rattle.port.proofs.quick.only.Statement.{statement}
 use Rattle.port.proofs.quick.only.Tie as tie
 

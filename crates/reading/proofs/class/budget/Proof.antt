@@ -1,6 +1,5 @@
 -- `budget` is `budgetOf`: the code's table is the definition's, and past it stands 0.
 -- Assumes nothing.
-use native.Mathlib.Omega.{arith}
 use mathlib.Core.Path.{sym, ap, refl}
 use lib.ListN.{List·getD-eq-default}
 use borrow.Author.Needs.{needs}

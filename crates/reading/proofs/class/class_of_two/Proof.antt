@@ -1,7 +1,7 @@
 -- `class_of_two` is `classOfTwo`: the tests of the two readings say which case holds.
 -- Assumes nothing.
 use mathlib.Core.Path.{_≡_, _∙_, sym, ap}
-use mathlib.Core.Bool.{true, false}
+use mathlib.Core.Bool.{true}
 use borrow.Author.Needs.{needs}
 use borrow.Author.Tests.{not-true, not-false}
 use Rattle.reading.specs.Class.{classOf, isFour, classOfTwo}

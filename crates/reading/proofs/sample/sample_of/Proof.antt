@@ -1,6 +1,5 @@
 -- `sample_of` is `sampleOf`: fourteen bytes from 14 times the port are within the block.
 -- Assumes nothing.
-use native.Mathlib.Omega.{arith}
 use borrow.Author.Needs.{needs}
 use borrow.Author.Tests.{lt-ltb, le-ltb}
 use Rattle.reading.specs.Sample.{sampleAt, sampleOf}

@@ -1,13 +1,11 @@
 -- `difference` is the difference in ℤ: 16-bit numbers, and so their difference, fit 32 bits with a sign.
 -- Assumes nothing.
-use mathlib.Core.Path.{_≡_, subst⁻¹}
-use Prim.Native.Nat.{_<_, _^_}
+use mathlib.Core.Path.{_≡_}
 use native.Mathlib.Omega.{arith}
 use borrow.Author.Needs.{needs}
-use lib.IntN.{ℤ, pos, _-ℤ_}
-use lib.Signed.{mag}
+use lib.IntN.{pos, _-ℤ_}
 use mir.Syntax.{w32}
-use mir.Val.{toZ, ofZ, SFits}
+use mir.Val.{toZ, SFits}
 use mir.Facts.{toZ-pos, toZ-ofZ}
 use Rattle.reading.proofs.Signed.{mag-difference, difference-fits}
 use Rattle.reading.proofs.signature.difference.Statement.{statement}

@@ -2,7 +2,6 @@
 -- Assumes nothing.
 use borrow.Author.Needs.{needs}
 use borrow.Author.Tests.{le-leb, lt-leb}
-use mathlib.Core.Bool.{and-false}
 use Rattle.table.specs.Calls.{coldStart}
 use Rattle.table.proofs.calls.cold_start.Statement.{statement}
 use Rattle.table.proofs.calls.cold_start.Tie as tie

@@ -1,7 +1,6 @@
 -- `drawn` is what a port draws: its demand if it is closed.
 -- Assumes nothing.
 use mathlib.Core.Path.{sym, _∙_}
-use mathlib.Core.Path.{ap}
 use borrow.Author.Needs.{needs}
 use Rattle.table.specs.Calls.{draws}
 use Rattle.table.proofs.calls.drawn.Statement.{statement}

@@ -2,7 +2,6 @@
 -- Assumes nothing.
 use mathlib.Core.Path.{sym, _∙_}
 use borrow.Author.Needs.{needs}
-use mathlib.Core.Bool.{or-true}
 use Rattle.table.specs.Laws.{count-with-port}
 use Rattle.table.specs.Calls.{granting}
 use Rattle.table.proofs.calls.grant.Statement.{statement}

@@ -1,6 +1,5 @@
 -- `word_of` is `wordOf`: each code is below 4, so the sum fits.
 -- Assumes nothing.
-use native.Mathlib.Omega.{arith}
 use borrow.Author.Needs.{needs}
 use Rattle.words.specs.Control.{wordOf}
 use Rattle.words.proofs.control.word_of.Statement.{statement}

@@ -1,6 +1,5 @@
 -- `place` is the product with 1 or with 0.
 -- Assumes nothing.
-use mathlib.Core.Path.{sym}
 use native.Mathlib.Nat.{one-mul, zero-mul, le-refl}
 use borrow.Author.Needs.{zero≤}
 use Rattle.words.proofs.status.place.Statement.{statement}
