@@ -16,6 +16,7 @@ pub struct Ran {
     pub sum: u64,
 }
 
+// The table is taken from what the tick answered, without a variable of its own, which would be a copy more.
 fn lap(from: Ran, blocks: &[u8], size: usize, figures: &[u8], ticks: u64) -> Ran {
     let start = from.table;
     let mut told = Ticked {

@@ -55,7 +55,7 @@ fn stepped(port: Port, block: &[u8], at: usize) -> Moved
     step(Power::FORCED, port, digest_of(sample(block, at)))
 }
 
-// One function, and the table changed where it stands: a table that is handed on is copied, which costs as much as five ports' moves.
+// One function, and the table changed where it stands: a table that is handed on is copied, which costs as much as three ports' moves.
 pub fn tick(mut table: Table, block: &[u8], figure: u64) -> Ticked
     ensures { λ r. ⌜ r ≡ tick table (now (block .entry)) figure ⌝ }
 {
