@@ -2,13 +2,12 @@
 -- Assumes nothing.
 use mathlib.Core.Path.{_≡_, refl, sym}
 use mathlib.Core.Bool.{Bool, true, false, _&&_, false≢true}
-use lib.Dec.{leb}
 use Rattle.lists.specs.Tests.{choice}
 use Rattle.power.specs.declared.Power.{Power}
 use Rattle.words.specs.Control.{enableOf, pairOf}
 use Rattle.port.specs.Form.{withCounts, detectionAt, backoffAt, errorDelayAt, powerOnAt, quietly}
 use Rattle.port.specs.Entry.{up, enterIdle, enterDisabled, enterDetecting, enterBackoff, enterClassifying}
-use Rattle.port.specs.Rules.{isOff, isOn, isForced, isB, idle, detected, detecting, backoff, errorDelay, classed, classifying, testError}
+use Rattle.port.specs.Rules.{isOff, isOn, isForced, isB, detectingEnds, backoffEnds, errorDelayEnds, classifyingEnds, idle, detected, detecting, backoff, errorDelay, classed, classifying, testError}
 use Rattle.port.specs.Settle.{closed}
 use Rattle.port.specs.Step.{givesWay, byState, step}
 use Rattle.port.specs.declared.form.Classing.{Classing}
@@ -50,25 +49,25 @@ open-detecting : (p : Port) (r : Reading) → closed (p .state) ≡ false → Op
 unfolding detecting enterIdle
 open-detecting p r e =
     let q = withCounts (detectionAt (up (p .counts .detection)) (p .counts)) p in
-    choice Opened (leb 500 (q .counts .detection)) (quietly (enterIdle q)) (detected (r .detection) q) refl (open-detected (r .detection) q e)
+    choice Opened (detectingEnds (q .counts .detection)) (quietly (enterIdle q)) (detected (r .detection) q) refl (open-detected (r .detection) q e)
 
 open-backoff : (p : Port) → closed (p .state) ≡ false → Opened (backoff p)
 unfolding backoff enterIdle Left
 open-backoff p e =
     let q = withCounts (backoffAt (up (p .counts .backoff)) (p .counts)) p in
-    choice Left (leb 2000 (q .counts .backoff)) (enterIdle q) q refl e
+    choice Left (backoffEnds (q .counts .backoff)) (enterIdle q) q refl e
 
 open-error-delay : (p : Port) → closed (p .state) ≡ false → Opened (errorDelay p)
 unfolding errorDelay enterIdle Left
 open-error-delay p e =
     let q = withCounts (errorDelayAt (up (p .counts .«error_delay»)) (p .counts)) p in
-    choice Left (leb 750 (q .counts .«error_delay»)) (enterIdle q) q refl e
+    choice Left (errorDelayEnds (q .counts .«error_delay»)) (enterIdle q) q refl e
 
 open-classifying : (p : Port) (r : Reading) → closed (p .state) ≡ false → Opened (classifying p r)
 unfolding classifying enterIdle
 open-classifying p r e =
     let q = withCounts (powerOnAt (up (p .counts .«power_on»)) (p .counts)) p in
-    choice Opened (leb 400 (q .counts .«power_on»)) (quietly (enterIdle q)) (classed (r .class) q) refl (open-classed (r .class) q e)
+    choice Opened (classifyingEnds (q .counts .«power_on»)) (quietly (enterIdle q)) (classed (r .class) q) refl (open-classed (r .class) q e)
 
 open-test-error : (p : Port) → closed (p .state) ≡ false → Opened (testError p)
 unfolding testError enterIdle Left
