@@ -1,5 +1,5 @@
--- The claim of a port and what the sharing does to it, by what the passes over the places hand on: states, a control word and a rank
--- in place of a whole move. A reader needs none of this: `rank` and `settled` are the meaning, and the laws here say that it is theirs.
+-- The claim of a port and what the sharing does to it, by what the passes over the places hand on: the state after the move, a control
+-- word and a rank in place of a whole move. A reader needs none of this: `rank` and `settled` are the meaning, and the laws here say that it is theirs.
 -- Assumes nothing.
 use Prim.Native.Nat.{ℕ, _+_, _<_}
 use mathlib.Core.Path.{_≡_, refl, ap}

@@ -19,7 +19,7 @@ pub struct Claims {
 }
 
 // A claim's demand is added, and no other.
-pub fn with_claim(sum: Sum, rank: u8, demand: Power) -> Sum
+fn with_claim(sum: Sum, rank: u8, demand: Power) -> Sum
     ensures { λ r. ⌜ (r ≡ added sum rank demand) × (demand .0 < 2 ^ 16) ⌝ }
 {
     if rank < RANKS {

@@ -1,5 +1,5 @@
--- What the port's diagram and the settling never do, for the third statement: a move closes no port by itself; a shed port is open;
--- a port that stays closed draws what it claimed.
+-- What the settling never does, for the third statement: a shed port is open, and a port that stays closed draws what it claimed. (That a
+-- move closes no port by itself is `open-stays`, in `port`.)
 -- Assumes nothing.
 use Prim.Native.Nat.{ℕ, _≤_}
 use mathlib.Core.Path.{_≡_, refl}

@@ -2,7 +2,7 @@
 -- words of the source up to names, with what a slice holds on entry by the slice's name and on exit by the name with a prime; `tools/public` reads the
 -- public functions off the sources, and fails if one is missing here or promises something else.
 -- Assumes nothing.
-use Prim.Native.Nat.{ℕ, _<_, _^_}
+use Prim.Native.Nat.{ℕ}
 use mathlib.Core.Path.{_≡_, refl, sym, _∙_, subst}
 use mathlib.Core.Bool.{Bool}
 use mathlib.Core.List.{List}
@@ -38,7 +38,6 @@ use Rattle.port.specs.declared.form.State.{State}
 use Rattle.port.specs.declared.quick.Glance.{Glance}
 use Rattle.port.specs.declared.quick.Signs.{Signs}
 use Rattle.share.specs.Given.{rankOf, demandOf}
-use Rattle.share.specs.Passes.{added}
 use Rattle.share.specs.Share.{keeps}
 use Rattle.share.specs.declared.Claims.{Claims}
 use Rattle.table.specs.Calls.{coldStart, writeControl, readStatus, request}
@@ -103,7 +102,6 @@ pub record Unique : Type 0 where
   pub port-settle-is-closed : (state : State) → One Bool (λ r. r ≡ closed state)
   pub port-settle-rank-in : (state : State) (control : ℕ) (asks : Bool) → One ℕ (λ r. r ≡ rankIn state control asks)
   pub port-settle-settled-port : (rank : ℕ) (kept : Bool) (port : Port) → One Port (λ r. r ≡ settledAs rank kept port)
-  pub share-with-claim : (sum : Sum) (rank : ℕ) (demand : Power) → One Sum (λ r. (r ≡ added sum rank demand) × (demand .0 < 2 ^ 16))
   pub share-kept : (claims : Claims) (s : Power) → One (List Bool) (λ r. r ≡ tabulate 48 (keeps 48 (rankOf claims) (demandOf claims) (s .0)))
   pub table-calls-cold-start : (ports : ℕ) → One Told (λ r. r ≡ coldStart ports)
   pub table-calls-write-control : (t : Table) (p word : ℕ) → One Told (λ r. r ≡ writeControl t p word)
@@ -161,7 +159,6 @@ unique =
       port-settle-is-closed = λ state. one Bool (closed state);
       port-settle-rank-in = λ state control asks. one ℕ (rankIn state control asks);
       port-settle-settled-port = λ rank kept port. one Port (settledAs rank kept port);
-      share-with-claim = λ sum rank demand r s p q. p .0 ∙ sym (q .0);
       share-kept = λ claims s. one (List Bool) (tabulate 48 (keeps 48 (rankOf claims) (demandOf claims) (s .0)));
       table-calls-cold-start = λ ports. one Told (coldStart ports);
       table-calls-write-control = λ t p word. one Told (writeControl t p word);
