@@ -2,6 +2,9 @@
 use Prim.Native.Nat.{ℕ, _+_, min}
 use mathlib.Core.Bool.{Bool, cond}
 use Rattle.power.specs.Power.{zeroPower}
+use Rattle.power.specs.declared.Power.{Power}
+use Rattle.port.specs.declared.form.Counts.{Counts}
+use Rattle.port.specs.declared.form.State.{State}
 use Rattle.port.specs.declared.form.State.the-variants.{Disabled, Idle, Detecting, Backoff, Classifying, PowerUp, PowerOn, ErrorDelay, TestMode, TestError}
 use Rattle.port.specs.declared.form.Port.{Port}
 use Rattle.port.specs.Form.{withState, withDemand, withCounts, detectionAt, backoffAt, errorDelayAt, powerOnAt, limitingAt, overloadAt, noLoadAt}
@@ -12,42 +15,37 @@ up n = min (n + 1) 2000
 
 -- "consecutive ticks .. are counted .. (a tick without sets 0)"
 unfoldable pub during : Bool → ℕ → ℕ
-during now n = cond now (up n) 0
+during runs n = cond runs (up n) 0
+
+-- "Each counter is set to 0 on the entry named": "DETECTING (counter from entry)", "BACKOFF (counter from entry)", "CLASSIFYING
+-- (power-on counter from entry)", "consecutive ticks of limiting, and of overload, are counted from POWER_UP's entry", "320 consecutive
+-- ticks without load, counted from its entry" (POWER_ON), "ERROR_DELAY (counter from entry)", "the same two counts, from its own entry"
+-- (TEST_MODE). A counter "otherwise stands still"
+abbrev pub countsOnEntry : State → Counts → Counts
+countsOnEntry Disabled c = c
+countsOnEntry Idle c = c
+countsOnEntry Detecting c = detectionAt 0 c
+countsOnEntry Backoff c = backoffAt 0 c
+countsOnEntry Classifying c = powerOnAt 0 c
+countsOnEntry PowerUp c = limitingAt 0 (overloadAt 0 c)
+countsOnEntry PowerOn c = noLoadAt 0 c
+countsOnEntry ErrorDelay c = errorDelayAt 0 c
+countsOnEntry TestMode c = limitingAt 0 (overloadAt 0 c)
+countsOnEntry TestError c = c
 
 -- "Entering IDLE or DISABLED sets demand 0"
-unfoldable pub enterIdle : Port → Port
-enterIdle p = withState Idle (withDemand zeroPower p)
+abbrev pub demandOnEntry : State → Power → Power
+demandOnEntry Disabled d = zeroPower
+demandOnEntry Idle d = zeroPower
+demandOnEntry Detecting d = d
+demandOnEntry Backoff d = d
+demandOnEntry Classifying d = d
+demandOnEntry PowerUp d = d
+demandOnEntry PowerOn d = d
+demandOnEntry ErrorDelay d = d
+demandOnEntry TestMode d = d
+demandOnEntry TestError d = d
 
-unfoldable pub enterDisabled : Port → Port
-enterDisabled p = withState Disabled (withDemand zeroPower p)
-
--- "DETECTING (counter from entry)"
-unfoldable pub enterDetecting : Port → Port
-enterDetecting p = withState Detecting (withCounts (detectionAt 0 (p .counts)) p)
-
--- "BACKOFF (counter from entry)"
-unfoldable pub enterBackoff : Port → Port
-enterBackoff p = withState Backoff (withCounts (backoffAt 0 (p .counts)) p)
-
--- "ERROR_DELAY (counter from entry)"
-unfoldable pub enterErrorDelay : Port → Port
-enterErrorDelay p = withState ErrorDelay (withCounts (errorDelayAt 0 (p .counts)) p)
-
--- "CLASSIFYING (power-on counter from entry)"
-unfoldable pub enterClassifying : Port → Port
-enterClassifying p = withState Classifying (withCounts (powerOnAt 0 (p .counts)) p)
-
--- "consecutive ticks of limiting, and of overload, are counted from POWER_UP's entry"
-unfoldable pub enterPowerUp : Port → Port
-enterPowerUp p = withState PowerUp (withCounts (limitingAt 0 (overloadAt 0 (p .counts))) p)
-
--- "320 consecutive ticks without load, counted from its entry"
-unfoldable pub enterPowerOn : Port → Port
-enterPowerOn p = withState PowerOn (withCounts (noLoadAt 0 (p .counts)) p)
-
--- TEST_MODE: "the same two counts, from its own entry"
-unfoldable pub enterTestMode : Port → Port
-enterTestMode p = withState TestMode (withCounts (limitingAt 0 (overloadAt 0 (p .counts))) p)
-
-unfoldable pub enterTestError : Port → Port
-enterTestError p = withState TestError p
+-- a port that goes to a state: "every field that no rule names" stands still
+unfoldable pub enter : State → Port → Port
+enter s p = withState s (withDemand (demandOnEntry s (p .demand)) (withCounts (countsOnEntry s (p .counts)) p))

@@ -1,8 +1,3 @@
-pub mod Claim
+pub mod Closed
 pub mod Entry
 pub mod Form
-pub mod Open
-pub mod Quick
-pub mod Rules
-pub mod Settle
-pub mod Step

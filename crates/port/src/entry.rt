@@ -1,4 +1,4 @@
-// How a counter runs, and what entering a state does.
+// How a counter runs, what entering a state does, and what a move answers.
 use crate::form::Counts;
 use crate::form::Moved;
 use crate::form::Port;
@@ -7,7 +7,7 @@ use power::Power;
 use words::status::Latches;
 ghost use mathlib.Core.Path.{_≡_};
 ghost use Rattle.port.specs.Form.{quietly, latching, asking};
-ghost use Rattle.port.specs.Entry.{up, during, enterIdle, enterDisabled, enterDetecting, enterBackoff, enterErrorDelay, enterClassifying, enterPowerUp, enterPowerOn, enterTestMode, enterTestError};
+ghost use Rattle.port.specs.Entry.{up, during, countsOnEntry, demandOnEntry, enter};
 
 const MOST: u16 = 2_000;
 
@@ -17,146 +17,81 @@ pub fn up(n: u16) -> u16
     if n < MOST { n + 1 } else { MOST }
 }
 
-pub fn during(now: bool, n: u16) -> u16
-    ensures { λ r. ⌜ r ≡ during now n ⌝ }
+pub fn during(runs: bool, n: u16) -> u16
+    ensures { λ r. ⌜ r ≡ during runs n ⌝ }
 {
-    if now { up(n) } else { 0 }
+    if runs { up(n) } else { 0 }
 }
 
-pub fn enter_idle(port: Port) -> Port
-    ensures { λ r. ⌜ r ≡ enterIdle port ⌝ }
+// A counter that the state does not name stands still.
+fn counts_on_entry(to: State, counts: Counts) -> Counts
+    ensures { λ r. ⌜ r ≡ countsOnEntry to counts ⌝ }
 {
-    let demand = Power::ZERO;
+    match to {
+        State::Disabled => counts,
+        State::Idle => counts,
+        State::Detecting => Counts {
+            detection: 0,
+            ..counts
+        },
+        State::Backoff => Counts {
+            backoff: 0,
+            ..counts
+        },
+        State::Classifying => Counts {
+            power_on: 0,
+            ..counts
+        },
+        State::PowerUp => Counts {
+            limiting: 0,
+            overload: 0,
+            ..counts
+        },
+        State::PowerOn => Counts {
+            no_load: 0,
+            ..counts
+        },
+        State::ErrorDelay => Counts {
+            error_delay: 0,
+            ..counts
+        },
+        State::TestMode => Counts {
+            limiting: 0,
+            overload: 0,
+            ..counts
+        },
+        State::TestError => counts,
+    }
+}
+
+fn demand_on_entry(to: State, demand: Power) -> Power
+    ensures { λ r. ⌜ r ≡ demandOnEntry to demand ⌝ }
+{
+    match to {
+        State::Disabled => Power::ZERO,
+        State::Idle => Power::ZERO,
+        State::Detecting => demand,
+        State::Backoff => demand,
+        State::Classifying => demand,
+        State::PowerUp => demand,
+        State::PowerOn => demand,
+        State::ErrorDelay => demand,
+        State::TestMode => demand,
+        State::TestError => demand,
+    }
+}
+
+pub fn enter(to: State, port: Port) -> Port
+    ensures { λ r. ⌜ r ≡ enter to port ⌝ }
+{
+    let before = port.counts;
+    let counts = counts_on_entry(to, before);
+    let held = port.demand;
+    let demand = demand_on_entry(to, held);
     Port {
-        state: State::Idle,
+        state: to,
         demand,
-        ..port
-    }
-}
-
-pub fn enter_disabled(port: Port) -> Port
-    ensures { λ r. ⌜ r ≡ enterDisabled port ⌝ }
-{
-    let demand = Power::ZERO;
-    Port {
-        state: State::Disabled,
-        demand,
-        ..port
-    }
-}
-
-pub fn enter_detecting(port: Port) -> Port
-    ensures { λ r. ⌜ r ≡ enterDetecting port ⌝ }
-{
-    let before = port.counts;
-    let counts = Counts {
-        detection: 0,
-        ..before
-    };
-    Port {
-        state: State::Detecting,
         counts,
-        ..port
-    }
-}
-
-pub fn enter_backoff(port: Port) -> Port
-    ensures { λ r. ⌜ r ≡ enterBackoff port ⌝ }
-{
-    let before = port.counts;
-    let counts = Counts {
-        backoff: 0,
-        ..before
-    };
-    Port {
-        state: State::Backoff,
-        counts,
-        ..port
-    }
-}
-
-pub fn enter_error_delay(port: Port) -> Port
-    ensures { λ r. ⌜ r ≡ enterErrorDelay port ⌝ }
-{
-    let before = port.counts;
-    let counts = Counts {
-        error_delay: 0,
-        ..before
-    };
-    Port {
-        state: State::ErrorDelay,
-        counts,
-        ..port
-    }
-}
-
-pub fn enter_classifying(port: Port) -> Port
-    ensures { λ r. ⌜ r ≡ enterClassifying port ⌝ }
-{
-    let before = port.counts;
-    let counts = Counts {
-        power_on: 0,
-        ..before
-    };
-    Port {
-        state: State::Classifying,
-        counts,
-        ..port
-    }
-}
-
-pub fn enter_power_up(port: Port) -> Port
-    ensures { λ r. ⌜ r ≡ enterPowerUp port ⌝ }
-{
-    let before = port.counts;
-    let counts = Counts {
-        limiting: 0,
-        overload: 0,
-        ..before
-    };
-    Port {
-        state: State::PowerUp,
-        counts,
-        ..port
-    }
-}
-
-pub fn enter_power_on(port: Port) -> Port
-    ensures { λ r. ⌜ r ≡ enterPowerOn port ⌝ }
-{
-    let before = port.counts;
-    let counts = Counts {
-        no_load: 0,
-        ..before
-    };
-    Port {
-        state: State::PowerOn,
-        counts,
-        ..port
-    }
-}
-
-pub fn enter_test_mode(port: Port) -> Port
-    ensures { λ r. ⌜ r ≡ enterTestMode port ⌝ }
-{
-    let before = port.counts;
-    let counts = Counts {
-        limiting: 0,
-        overload: 0,
-        ..before
-    };
-    Port {
-        state: State::TestMode,
-        counts,
-        ..port
-    }
-}
-
-pub fn enter_test_error(port: Port) -> Port
-    ensures { λ r. ⌜ r ≡ enterTestError port ⌝ }
-{
-    Port {
-        state: State::TestError,
         ..port
     }
 }

@@ -1,7 +1,4 @@
-// A port: its state, counters and latches, its move in one tick over a digested reading, and what the sharing does to it.
-mod entry;
+// A port: its state, counters and latches, which states are closed, how a counter runs, and what entering a state does.
+pub mod closed;
+pub mod entry;
 pub mod form;
-pub mod quick;
-mod rules;
-pub mod settle;
-pub mod step;

@@ -12,8 +12,9 @@ use Rattle.lists.specs.Tests.{choice}
 use Rattle.words.specs.Control.{priorityOf}
 use Rattle.words.specs.declared.control.Priority.{Priority}
 use Rattle.words.specs.declared.control.Priority.the-variants.{Unknown, Critical, High, Low}
-use Rattle.port.specs.Entry.{enterIdle, enterPowerUp, enterTestMode, enterTestError}
-use Rattle.port.specs.Settle.{closed, urgency, rank, granted, inTest, shed}
+use Rattle.port.specs.Entry.{enter}
+use Rattle.port.specs.Closed.{closed}
+use Rattle.settling.specs.Settle.{urgency, rank, granted, inTest, shed}
 use Rattle.port.specs.declared.form.Moved.{Moved}
 use Rattle.port.specs.declared.form.Port.{Port}
 use Rattle.port.specs.declared.form.State.{State}
@@ -22,12 +23,12 @@ use Rattle.table.specs.Calls.{draws}
 
 -- a shed port is open
 pub shed-open : (p : Port) → closed (shed p .port .state) ≡ false
-unfolding shed enterTestError enterIdle
-shed-open p = choice (λ (x : Port). closed (x .state) ≡ false) (inTest (p .state)) (enterTestError p) (enterIdle p) refl refl
+unfolding shed enter
+shed-open p = choice (λ (x : Port). closed (x .state) ≡ false) (inTest (p .state)) (enter TestError p) (enter Idle p) refl refl
 
 -- a port that is granted its state keeps its demand
 pub granted-demand : (s : State) (p : Port) → granted s p .demand ≡ p .demand
-unfolding granted enterTestMode enterPowerUp
+unfolding granted enter
 granted-demand Disabled p = refl
 granted-demand Idle p = refl
 granted-demand Detecting p = refl

@@ -10,11 +10,11 @@ use Rattle.power.specs.Power.{tenths, forced}
 use Rattle.words.specs.Control.{enableOf, pairOf, priorityOf}
 use Rattle.words.specs.Status.{noLatches, join}
 use Rattle.words.specs.declared.status.Latches.{Latches}
-use Rattle.port.specs.Entry.{up, during, enterIdle, enterDisabled, enterDetecting, enterBackoff, enterErrorDelay, enterClassifying, enterPowerUp, enterPowerOn, enterTestMode, enterTestError}
+use Rattle.port.specs.Entry.{up, during, enter}
 use Rattle.port.specs.Form.{latchDenied, latchValid, latchInvalid, latchShort, latchOverload, latchAbsent}
-use Rattle.port.specs.Rules.{idle, detected, detecting, backoff, errorDelay, classed, classifying, stressed, watched, risen, powerUp, powerOn, testMode, testError}
-use Rattle.port.specs.Settle.{rank, granted, shed, settled}
-use Rattle.port.specs.Step.{byState, step}
+use Rattle.diagram.specs.Rules.{idle, detected, detecting, backoff, errorDelay, classed, classifying, stressed, watched, risen, powerUp, powerOn, testMode, testError}
+use Rattle.settling.specs.Settle.{rank, granted, shed, settled}
+use Rattle.diagram.specs.Step.{byState, step}
 use Rattle.port.specs.declared.form.Classing.{Classing}
 use Rattle.port.specs.declared.form.Classing.the-variants.{NotDone as NotClassed, Failed, Is}
 use Rattle.port.specs.declared.form.Counts.{Counts}
@@ -206,7 +206,7 @@ rows =
     ∷ []
 
 pub rows-hold : map (λ (r : Before × Goes). move (r .0)) rows ≡ map (λ (r : Before × Goes). r .1) rows
-unfolding rows move step byState enableOf pairOf field up during idle detected detecting backoff errorDelay classed classifying stressed watched risen powerUp powerOn testMode testError enterIdle enterDisabled enterDetecting enterBackoff enterErrorDelay enterClassifying enterPowerOn enterTestError
+unfolding rows move step byState enableOf pairOf field up during idle detected detecting backoff errorDelay classed classifying stressed watched risen powerUp powerOn testMode testError enter
 rows-hold = refl
 
 -- the counters after a move of a port that has seven different ones
@@ -244,7 +244,7 @@ counters =
     ∷ []
 
 pub counters-hold : map (λ (r : Before × Counts). counted (r .0)) counters ≡ map (λ (r : Before × Counts). r .1) counters
-unfolding counters counted step byState enableOf pairOf field up during idle detected detecting backoff errorDelay classed classifying stressed watched risen powerUp powerOn testMode testError enterIdle enterDisabled enterDetecting enterBackoff enterErrorDelay enterClassifying enterPowerOn enterTestError
+unfolding counters counted step byState enableOf pairOf field up during idle detected detecting backoff errorDelay classed classifying stressed watched risen powerUp powerOn testMode testError enter
 counters-hold = refl
 
 -- a counter stops at 2,000
@@ -329,7 +329,7 @@ rests =
     ∷ []
 
 pub rests-hold : map (λ (r : Settles × Rests). settling-of (r .0)) rests ≡ map (λ (r : Settles × Rests). r .1) rests
-unfolding rests settling-of settled granted shed enterIdle enterPowerUp enterTestMode enterTestError join
+unfolding rests settling-of settled granted shed enter join
 rests-hold = refl
 
 -- "consecutive ticks of limiting, and of overload, are counted from POWER_UP's entry"; in TEST_MODE "the same two counts, from its own entry"; a
@@ -340,5 +340,5 @@ asker s w = record { port = counting s w before; latched = noLatches; asks = tru
 pub entries-hold :
     settled 3 true (asker Classifying on) .counts ∷ settled 3 true (asker Idle force) .counts ∷ settled 3 false (asker Classifying on) .counts ∷ []
     ≡ counts 11 22 33 44 0 0 77 ∷ counts 11 22 33 44 0 0 77 ∷ before ∷ []
-unfolding settled granted shed enterIdle enterPowerUp enterTestMode
+unfolding settled granted shed enter
 entries-hold = refl

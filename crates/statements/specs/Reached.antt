@@ -16,8 +16,8 @@ use Rattle.reading.specs.Class.{budgetOf}
 use Rattle.reading.specs.Laws.{budget-is-demand}
 use Rattle.reading.specs.Sample.{sampleAt}
 use Rattle.words.specs.Control.{refused}
-use Rattle.port.specs.Settle.{settled}
-use Rattle.port.specs.Step.{step}
+use Rattle.settling.specs.Settle.{settled}
+use Rattle.diagram.specs.Step.{step}
 use Rattle.port.specs.declared.form.Port.{Port}
 use Rattle.port.specs.declared.form.State.{State}
 use Rattle.table.specs.Calls.{coldPort, coldTable, coldStart, inDisabled, sameAlternative, withControl, controlled, writeControl, unlatched, statusAt, readStatus, levelOf, inPowerOn, closedSum, demanding, granting, requested, request}

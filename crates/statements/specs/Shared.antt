@@ -14,7 +14,8 @@ use Rattle.lists.specs.Total.{total-mono, total-fewer}
 use Rattle.power.specs.Power.{forced}
 use Rattle.power.specs.declared.Power.{Power}
 use Rattle.reading.specs.Sample.{sampleAt}
-use Rattle.port.specs.Settle.{closed, granted, shed, settled}
+use Rattle.port.specs.Closed.{closed}
+use Rattle.settling.specs.Settle.{granted, shed, settled}
 use Rattle.port.specs.declared.form.Moved.{Moved}
 use Rattle.port.specs.declared.form.Port.{Port}
 use Rattle.share.specs.Laws.{more-keeps, kept-sum-fits}
@@ -26,7 +27,7 @@ use Rattle.table.specs.Kept.{port-after-at}
 use Rattle.table.specs.Laws.{count-after}
 use Rattle.table.specs.Tick.{movedAt, rankAt, claimAt, keptAt, portAfter, tableAfter, closedAt}
 use Rattle.table.specs.declared.form.Table.{Table}
-use Rattle.port.specs.Open.{open-stays}
+use Rattle.diagram.specs.Open.{open-stays}
 use Rattle.statements.specs.Diagram.{shed-open, granted-demand, draws-at-most, draws-open, no-claim-open}
 
 -- a port that is closed with its claim kept or shed is closed with it kept

@@ -14,8 +14,8 @@ use Rattle.power.specs.Power.{tenths, forced}
 use Rattle.power.specs.declared.Power.{Power}
 use Rattle.reading.specs.Sample.{sampleAt}
 use Rattle.words.specs.Control.{pairOf}
-use Rattle.port.specs.Settle.{rank, settled}
-use Rattle.port.specs.Step.{step}
+use Rattle.settling.specs.Settle.{rank, settled}
+use Rattle.diagram.specs.Step.{step}
 use Rattle.port.specs.declared.form.Moved.{Moved}
 use Rattle.share.specs.Share.{keeps}
 use Rattle.table.specs.Digest.{digest}

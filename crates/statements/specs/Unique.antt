@@ -19,7 +19,7 @@ use Rattle.reading.specs.declared.class.Class.{Class}
 use Rattle.reading.specs.declared.sample.Flags.{Flags}
 use Rattle.reading.specs.declared.sample.Sampled.{Sampled}
 use Rattle.reading.specs.declared.signature.Signature.{Signature}
-use Rattle.words.specs.Control.{enableOf, pairOf, priorityOf, controlOf, wordOf, refused}
+use Rattle.words.specs.Control.{enableOf, pairOf, priorityOf, controlOf, wordOf, refused, isOff, isOn, isForced}
 use Rattle.words.specs.Status.{join as joinLatches, statusWord}
 use Rattle.words.specs.declared.control.Control.{Control}
 use Rattle.words.specs.declared.control.Enable.{Enable}
@@ -27,16 +27,18 @@ use Rattle.words.specs.declared.control.Pair.{Pair}
 use Rattle.words.specs.declared.control.Priority.{Priority}
 use Rattle.words.specs.declared.status.Condition.{Condition}
 use Rattle.words.specs.declared.status.Latches.{Latches}
-use Rattle.port.specs.Claim.{rankIn, settledAs}
-use Rattle.port.specs.Quick.{quickly}
-use Rattle.port.specs.Settle.{closed}
-use Rattle.port.specs.Step.{step}
+use Rattle.settling.specs.Claim.{rankIn, settledAs}
+use Rattle.quick.specs.Quick.{quickly}
+use Rattle.port.specs.Closed.{closed}
+use Rattle.port.specs.Entry.{up, during, enter}
+use Rattle.port.specs.Form.{quietly, latching, asking}
+use Rattle.diagram.specs.Step.{step}
 use Rattle.port.specs.declared.form.Moved.{Moved}
 use Rattle.port.specs.declared.form.Port.{Port}
 use Rattle.port.specs.declared.form.Reading.{Reading}
 use Rattle.port.specs.declared.form.State.{State}
-use Rattle.port.specs.declared.quick.Glance.{Glance}
-use Rattle.port.specs.declared.quick.Signs.{Signs}
+use Rattle.quick.specs.declared.Glance.{Glance}
+use Rattle.quick.specs.declared.Signs.{Signs}
 use Rattle.share.specs.Given.{rankOf, demandOf}
 use Rattle.share.specs.Share.{keeps}
 use Rattle.share.specs.declared.Claims.{Claims}
@@ -95,13 +97,22 @@ pub record Unique : Type 0 where
   pub words-control-control-of : (word : ℕ) → One Control (λ r. r ≡ controlOf word)
   pub words-control-word-of : (c : Control) → One ℕ (λ r. r ≡ wordOf c)
   pub words-control-refused : (word : ℕ) → One Bool (λ r. r ≡ refused word)
+  pub words-enable-is-off : (enable : Enable) → One Bool (λ r. r ≡ isOff enable)
+  pub words-enable-is-on : (enable : Enable) → One Bool (λ r. r ≡ isOn enable)
+  pub words-enable-is-forced : (enable : Enable) → One Bool (λ r. r ≡ isForced enable)
   pub words-status-join : (self more : Latches) → One Latches (λ r. r ≡ joinLatches self more)
   pub words-status-status-word : (l : Latches) (c : ℕ) (k : Condition) → One ℕ (λ r. r ≡ statusWord l c k)
-  pub port-step-step : (claim : Power) (p : Port) (reading : Reading) → One Moved (λ r. r ≡ step claim p reading)
-  pub port-quick-quick : (port : Port) (signs : Signs) → One Glance (λ r. r ≡ quickly port signs)
-  pub port-settle-is-closed : (state : State) → One Bool (λ r. r ≡ closed state)
-  pub port-settle-rank-in : (state : State) (control : ℕ) (asks : Bool) → One ℕ (λ r. r ≡ rankIn state control asks)
-  pub port-settle-settled-port : (rank : ℕ) (kept : Bool) (port : Port) → One Port (λ r. r ≡ settledAs rank kept port)
+  pub port-closed-is-closed : (state : State) → One Bool (λ r. r ≡ closed state)
+  pub port-entry-up : (n : ℕ) → One ℕ (λ r. r ≡ up n)
+  pub port-entry-during : (runs : Bool) (n : ℕ) → One ℕ (λ r. r ≡ during runs n)
+  pub port-entry-enter : (to : State) (port : Port) → One Port (λ r. r ≡ enter to port)
+  pub port-entry-quietly : (port : Port) → One Moved (λ r. r ≡ quietly port)
+  pub port-entry-latching : (latched : Latches) (port : Port) → One Moved (λ r. r ≡ latching latched port)
+  pub port-entry-asking : (port : Port) → One Moved (λ r. r ≡ asking port)
+  pub diagram-step : (claim : Power) (p : Port) (reading : Reading) → One Moved (λ r. r ≡ step claim p reading)
+  pub settling-rank-in : (state : State) (control : ℕ) (asks : Bool) → One ℕ (λ r. r ≡ rankIn state control asks)
+  pub settling-settled-port : (rank : ℕ) (kept : Bool) (port : Port) → One Port (λ r. r ≡ settledAs rank kept port)
+  pub quick-quick : (port : Port) (signs : Signs) → One Glance (λ r. r ≡ quickly port signs)
   pub share-kept : (claims : Claims) (s : Power) → One (List Bool) (λ r. r ≡ tabulate 48 (keeps 48 (rankOf claims) (demandOf claims) (s .0)))
   pub table-calls-cold-start : (ports : ℕ) → One Told (λ r. r ≡ coldStart ports)
   pub table-calls-write-control : (t : Table) (p word : ℕ) → One Told (λ r. r ≡ writeControl t p word)
@@ -152,13 +163,22 @@ unique =
       words-control-control-of = λ word. one Control (controlOf word);
       words-control-word-of = λ c. one ℕ (wordOf c);
       words-control-refused = λ word. one Bool (refused word);
+      words-enable-is-off = λ enable. one Bool (isOff enable);
+      words-enable-is-on = λ enable. one Bool (isOn enable);
+      words-enable-is-forced = λ enable. one Bool (isForced enable);
       words-status-join = λ self more. one Latches (joinLatches self more);
       words-status-status-word = λ l c k. one ℕ (statusWord l c k);
-      port-step-step = λ claim p reading. one Moved (step claim p reading);
-      port-quick-quick = λ port signs. one Glance (quickly port signs);
-      port-settle-is-closed = λ state. one Bool (closed state);
-      port-settle-rank-in = λ state control asks. one ℕ (rankIn state control asks);
-      port-settle-settled-port = λ rank kept port. one Port (settledAs rank kept port);
+      port-closed-is-closed = λ state. one Bool (closed state);
+      port-entry-up = λ n. one ℕ (up n);
+      port-entry-during = λ runs n. one ℕ (during runs n);
+      port-entry-enter = λ to port. one Port (enter to port);
+      port-entry-quietly = λ port. one Moved (quietly port);
+      port-entry-latching = λ latched port. one Moved (latching latched port);
+      port-entry-asking = λ port. one Moved (asking port);
+      diagram-step = λ claim p reading. one Moved (step claim p reading);
+      settling-rank-in = λ state control asks. one ℕ (rankIn state control asks);
+      settling-settled-port = λ rank kept port. one Port (settledAs rank kept port);
+      quick-quick = λ port signs. one Glance (quickly port signs);
       share-kept = λ claims s. one (List Bool) (tabulate 48 (keeps 48 (rankOf claims) (demandOf claims) (s .0)));
       table-calls-cold-start = λ ports. one Told (coldStart ports);
       table-calls-write-control = λ t p word. one Told (writeControl t p word);

@@ -18,10 +18,10 @@ use Rattle.reading.specs.Sample.{wordAt, sampleAt, reservedFlags, flagsOf}
 use Rattle.reading.specs.declared.sample.Sample.{Sample}
 use Rattle.reading.specs.Signature.{outside, byDifferences, signatureOf}
 use Rattle.words.specs.Control.{enableOf, pairOf, priorityOf, refused}
-use Rattle.port.specs.Entry.{up, enterIdle, enterDetecting, enterClassifying, enterPowerUp}
-use Rattle.port.specs.Rules.{idle, detected, detecting, classed, classifying}
-use Rattle.port.specs.Settle.{rank, granted, shed, settled}
-use Rattle.port.specs.Step.{byState, step}
+use Rattle.port.specs.Entry.{up, enter}
+use Rattle.diagram.specs.Rules.{idle, detected, detecting, classed, classifying}
+use Rattle.settling.specs.Settle.{rank, granted, shed, settled}
+use Rattle.diagram.specs.Step.{byState, step}
 use Rattle.share.specs.Share.{claims, before, met, sumWhere, down, keeps}
 use Rattle.table.specs.Calls.{coldTable, coldStart, writeControl, controlled, withControl, draws, closedSum}
 use Rattle.table.specs.Digest.{digest}
@@ -64,7 +64,7 @@ pub record Facts : Type 0 where
   pub too-early : shown 1 0 (ticked signs 154 ∷ ticked quiet 154 ∷ control 0 0x0005 ∷ []) ≡ nothing
 
 pub facts : Facts
-unfolding quiet signs gives signed reached after shown adds seen showsSignature givesClass coldStart coldTable done writeControl controlled withControl withPort wellMade atMost every portAt wellPort wellCounts refused field above isDemand some flagsTaken reservedFlags sampleAt wordAt tick tickWith supplyOf answered tableAfter tabulate portAfter digest flagsOf bit signatureOf outside byDifferences classOfTwo isFour classOf budgetOf step byState enableOf pairOf up idle detected detecting classifying classed rankAt movedAt rank priorityOf keptAt claimAt keeps claims down sumWhere total met before settled granted enterIdle enterDetecting enterClassifying enterPowerUp shed closedSum draws closedAt
+unfolding quiet signs gives signed reached after shown adds seen showsSignature givesClass coldStart coldTable done writeControl controlled withControl withPort wellMade atMost every portAt wellPort wellCounts refused field above isDemand some flagsTaken reservedFlags sampleAt wordAt tick tickWith supplyOf answered tableAfter tabulate portAfter digest flagsOf bit signatureOf outside byDifferences classOfTwo isFour classOf budgetOf step byState enableOf pairOf up idle detected detecting classifying classed rankAt movedAt rank priorityOf keptAt claimAt keeps claims down sumWhere total met before settled granted enter shed closedSum draws closedAt
 facts = record { waits = refl; closes = refl; shows-both = refl; adds-up = refl; remembers = refl; opens = refl; forgets = refl; too-early = refl }
 
 -- the masks compared the other way round: false of our core

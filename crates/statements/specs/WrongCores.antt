@@ -19,10 +19,11 @@ use Rattle.reading.specs.Class.{classOf, isFour, classOfTwo, budgetOf, isDemand
 use Rattle.reading.specs.Sample.{wordAt, sampleAt, reservedFlags, flagsOf}
 use Rattle.words.specs.Control.{enableOf, pairOf, priorityOf, refused}
 use Rattle.words.specs.Status.{noLatches}
-use Rattle.port.specs.Entry.{up, enterIdle, enterPowerUp}
-use Rattle.port.specs.Rules.{classed, classifying}
-use Rattle.port.specs.Settle.{closed, rank, granted, shed, settled}
-use Rattle.port.specs.Step.{byState, step}
+use Rattle.port.specs.Entry.{up, enter}
+use Rattle.diagram.specs.Rules.{classed, classifying}
+use Rattle.port.specs.Closed.{closed}
+use Rattle.settling.specs.Settle.{rank, granted, shed, settled}
+use Rattle.diagram.specs.Step.{byState, step}
 use Rattle.port.specs.declared.form.Port.{Port}
 use Rattle.port.specs.declared.form.State.the-variants.{Classifying}
 use Rattle.share.specs.Share.{claims, before, met, sumWhere, down, keeps}
@@ -89,7 +90,7 @@ record Here : Type 0 where
   first-opens : closed (settles 0 0 .state) ≡ false
 
 here : Here
-unfolding two both portAt sampleAt wordAt digest flagsOf bit classOfTwo isFour classOf budgetOf step byState enableOf pairOf field up classifying classed rankAt movedAt rank priorityOf keptAt claimAt keeps claims down sumWhere total met before settled granted enterPowerUp shed enterIdle
+unfolding two both portAt sampleAt wordAt digest flagsOf bit classOfTwo isFour classOf budgetOf step byState enableOf pairOf field up classifying classed rankAt movedAt rank priorityOf keptAt claimAt keeps claims down sumWhere total met before settled granted enter shed
 here = record { first-was-open = refl; second-was-open = refl; first-closes = refl; first-is-a = refl; second-closes = refl; first-opens = refl }
 
 module _ (after : Table) where

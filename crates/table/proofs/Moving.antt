@@ -17,13 +17,13 @@ use Rattle.power.specs.Power.{sumOf, forced, fits}
 use Rattle.power.specs.declared.Power.{Power}
 use Rattle.reading.specs.Sample.{sampleAt}
 use Rattle.port.specs.Form.{withCounts, quietly}
-use Rattle.port.specs.Quick.{quickly, quick-is-step}
+use Rattle.quick.specs.Quick.{quickly, quick-is-step}
 use Rattle.port.specs.declared.form.Counts.{Counts}
 use Rattle.port.specs.declared.form.Moved.{Moved}
 use Rattle.port.specs.declared.form.Port.{Port}
-use Rattle.port.specs.declared.quick.Glance.{Glance}
-use Rattle.port.specs.declared.quick.Glance.the-variants.{Counted}
-use Rattle.port.specs.declared.quick.Signs.{Signs}
+use Rattle.quick.specs.declared.Glance.{Glance}
+use Rattle.quick.specs.declared.Glance.the-variants.{Counted}
+use Rattle.quick.specs.declared.Signs.{Signs}
 use Rattle.table.specs.declared.form.Table.{Table}
 use Rattle.table.specs.declared.form.Closed.the-variants.{Ports}
 use Rattle.table.specs.declared.tally.Tally.{Tally}

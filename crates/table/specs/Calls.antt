@@ -13,7 +13,7 @@ use Rattle.words.specs.Status.{noLatches, statusWord}
 use Rattle.words.specs.declared.status.Condition.{Condition}
 use Rattle.words.specs.declared.status.Condition.the-variants.{Disabled as Off, Searching, Delivering, Testing, Faulty}
 use Rattle.port.specs.Form.{withDemand, withLatches}
-use Rattle.port.specs.Settle.{closed}
+use Rattle.port.specs.Closed.{closed}
 use Rattle.port.specs.declared.form.Port.{Port}
 use Rattle.port.specs.declared.form.State.{State}
 use Rattle.port.specs.declared.form.State.the-variants.{Disabled, Idle, Detecting, Backoff, Classifying, PowerUp, PowerOn, ErrorDelay, TestMode, TestError}

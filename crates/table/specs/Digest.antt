@@ -15,8 +15,8 @@ use Rattle.port.specs.declared.form.Classing.the-variants.{NotDone as NotClasse
 use Rattle.port.specs.declared.form.Detection.{Detection}
 use Rattle.port.specs.declared.form.Detection.the-variants.{NotDone, Valid as DetectedValid, Invalid as DetectedInvalid, Open as DetectedOpen}
 use Rattle.port.specs.declared.form.Reading.{Reading}
-use Rattle.port.specs.declared.quick.Signs.{Signs}
-use Rattle.port.specs.Quick.{isDone, isClassed, signsOf}
+use Rattle.quick.specs.declared.Signs.{Signs}
+use Rattle.quick.specs.Quick.{isDone, isClassed, signsOf}
 
 abbrev pub detectionOf : Signature → Detection
 detectionOf Valid = DetectedValid

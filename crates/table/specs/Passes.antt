@@ -11,7 +11,7 @@ use Rattle.lists.specs.Places.{tabulate}
 use Rattle.power.specs.Power.{zeroPower, atMost, highestSupply}
 use Rattle.power.specs.declared.Power.{Power}
 use Rattle.reading.specs.Sample.{sampleAt, reservedFlags}
-use Rattle.port.specs.Claim.{rankIn, settledAs}
+use Rattle.settling.specs.Claim.{rankIn, settledAs}
 use Rattle.share.specs.Given.{rankOf, demandOf}
 use Rattle.share.specs.Share.{keeps}
 use Rattle.share.specs.declared.Claims.{Claims}

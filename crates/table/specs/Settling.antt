@@ -15,8 +15,8 @@ use Rattle.lists.specs.Total.{total, total-cong, total-less}
 use Rattle.power.specs.Power.{zeroPower, forced}
 use Rattle.power.specs.declared.Power.{Power}
 use Rattle.reading.specs.Sample.{sampleAt}
-use Rattle.port.specs.Claim.{rankIn, rank-in, claims-closed, settledAs, settled-as}
-use Rattle.port.specs.Settle.{rank, settled}
+use Rattle.settling.specs.Claim.{rankIn, rank-in, claims-closed, settledAs, settled-as}
+use Rattle.settling.specs.Settle.{rank, settled}
 use Rattle.port.specs.declared.form.Port.{Port}
 use Rattle.share.specs.Given.{rankOf, demandOf, claimsOf, claims-of}
 use Rattle.share.specs.Laws.{all-keep}

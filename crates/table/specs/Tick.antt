@@ -16,8 +16,9 @@ use Rattle.reading.specs.Sample.{sampleAt, reservedFlags}
 use Rattle.words.specs.Control.{pairOf}
 use Rattle.words.specs.declared.control.Pair.{Pair}
 use Rattle.words.specs.declared.control.Pair.the-variants.{Neither, A, B, Both}
-use Rattle.port.specs.Settle.{closed, rank, settled}
-use Rattle.port.specs.Step.{step}
+use Rattle.port.specs.Closed.{closed}
+use Rattle.settling.specs.Settle.{rank, settled}
+use Rattle.diagram.specs.Step.{step}
 use Rattle.port.specs.declared.form.Moved.{Moved}
 use Rattle.port.specs.declared.form.Port.{Port}
 use Rattle.share.specs.Share.{keeps}

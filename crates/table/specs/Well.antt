@@ -15,12 +15,12 @@ use Rattle.reading.specs.declared.class.Class.{Class}
 use Rattle.reading.specs.declared.class.Class.the-variants.{Is, Failure}
 use Rattle.reading.specs.declared.sample.Sample.{Sample}
 use Rattle.reading.specs.Sample.{flagsOf}
-use Rattle.words.specs.Control.{refused, enableOf, pairOf}
-use Rattle.port.specs.Entry.{up, during, enterIdle, enterDisabled, enterDetecting, enterBackoff, enterErrorDelay, enterClassifying, enterPowerUp, enterPowerOn, enterTestMode, enterTestError}
+use Rattle.words.specs.Control.{refused, enableOf, pairOf, isOff, isOn, isForced}
+use Rattle.port.specs.Entry.{up, during, enter}
 use Rattle.port.specs.Form.{withClass, withCounts, detectionAt, backoffAt, errorDelayAt, powerOnAt, noLoadAt}
-use Rattle.port.specs.Rules.{isOff, isOn, isForced, isB, idle, detected, detecting, backoff, errorDelay, classed, classifying, stressed, watched, risen, powerUp, powerOn, testMode, testError}
-use Rattle.port.specs.Settle.{granted, shed, settled, inTest}
-use Rattle.port.specs.Step.{givesWay, byState, step}
+use Rattle.diagram.specs.Rules.{isB, idle, detected, detecting, backoff, errorDelay, classed, classifying, stressed, watched, risen, powerUp, powerOn, testMode, testError}
+use Rattle.settling.specs.Settle.{granted, shed, settled, inTest}
+use Rattle.diagram.specs.Step.{givesWay, byState, step}
 use Rattle.port.specs.declared.form.Classing.{Classing}
 use Rattle.port.specs.declared.form.Classing.the-variants.{NotDone as NotClassed, Failed, Is as Classed}
 use Rattle.port.specs.declared.form.Counts.{Counts}
@@ -128,44 +128,44 @@ unfolding isDemand some
 forced-demand = refl
 
 -- each entry keeps a port well-made
-idle-well : (p : Port) → Well p → Well (enterIdle p)
-unfolding enterIdle
+idle-well : (p : Port) → Well p → Well (enter Idle p)
+unfolding enter
 idle-well p w = record { counts = w .counts; class = w .class; control = w .control; demand = zero-demand }
 
-disabled-well : (p : Port) → Well p → Well (enterDisabled p)
-unfolding enterDisabled
+disabled-well : (p : Port) → Well p → Well (enter Disabled p)
+unfolding enter
 disabled-well p w = record { counts = w .counts; class = w .class; control = w .control; demand = zero-demand }
 
-detecting-well : (p : Port) → Well p → Well (enterDetecting p)
-unfolding enterDetecting
+detecting-well : (p : Port) → Well p → Well (enter Detecting p)
+unfolding enter
 detecting-well p w = record { counts = let v = w .counts in omega arith; class = w .class; control = w .control; demand = w .demand }
 
-backoff-well : (p : Port) → Well p → Well (enterBackoff p)
-unfolding enterBackoff
+backoff-well : (p : Port) → Well p → Well (enter Backoff p)
+unfolding enter
 backoff-well p w = record { counts = let v = w .counts in omega arith; class = w .class; control = w .control; demand = w .demand }
 
-error-delay-well : (p : Port) → Well p → Well (enterErrorDelay p)
-unfolding enterErrorDelay
+error-delay-well : (p : Port) → Well p → Well (enter ErrorDelay p)
+unfolding enter
 error-delay-well p w = record { counts = let v = w .counts in omega arith; class = w .class; control = w .control; demand = w .demand }
 
-classifying-well : (p : Port) → Well p → Well (enterClassifying p)
-unfolding enterClassifying
+classifying-well : (p : Port) → Well p → Well (enter Classifying p)
+unfolding enter
 classifying-well p w = record { counts = let v = w .counts in omega arith; class = w .class; control = w .control; demand = w .demand }
 
-power-up-well : (p : Port) → Well p → Well (enterPowerUp p)
-unfolding enterPowerUp
+power-up-well : (p : Port) → Well p → Well (enter PowerUp p)
+unfolding enter
 power-up-well p w = record { counts = let v = w .counts in omega arith; class = w .class; control = w .control; demand = w .demand }
 
-power-on-well : (p : Port) → Well p → Well (enterPowerOn p)
-unfolding enterPowerOn
+power-on-well : (p : Port) → Well p → Well (enter PowerOn p)
+unfolding enter
 power-on-well p w = record { counts = let v = w .counts in omega arith; class = w .class; control = w .control; demand = w .demand }
 
-test-mode-well : (p : Port) → Well p → Well (enterTestMode p)
-unfolding enterTestMode
+test-mode-well : (p : Port) → Well p → Well (enter TestMode p)
+unfolding enter
 test-mode-well p w = record { counts = let v = w .counts in omega arith; class = w .class; control = w .control; demand = w .demand }
 
-test-error-well : (p : Port) → Well p → Well (enterTestError p)
-unfolding enterTestError
+test-error-well : (p : Port) → Well p → Well (enter TestError p)
+unfolding enter
 test-error-well p w = record { counts = w .counts; class = w .class; control = w .control; demand = w .demand }
 
 stressed-well : (r : Reading) (c : Counts) → WellCounts c → WellCounts (stressed r c)
@@ -206,7 +206,7 @@ unfolding detected
 detected-rule NotDone q w = w
 detected-rule Valid q w = let v = classifying-well q w in record { counts = v .counts; class = v .class; control = v .control; demand = v .demand }
 detected-rule Invalid q w =
-    let v : Well (cond (isB (pairOf (q .control))) (enterBackoff q) (enterIdle q)) = choice Well (isB (pairOf (q .control))) (enterBackoff q) (enterIdle q) (backoff-well q w) (idle-well q w) in
+    let v : Well (cond (isB (pairOf (q .control))) (enter Backoff q) (enter Idle q)) = choice Well (isB (pairOf (q .control))) (enter Backoff q) (enter Idle q) (backoff-well q w) (idle-well q w) in
     record { counts = v .counts; class = v .class; control = v .control; demand = v .demand }
 detected-rule Open q w = let v = idle-well q w in record { counts = v .counts; class = v .class; control = v .control; demand = v .demand }
 
@@ -222,14 +222,14 @@ unfolding backoff
 backoff-rule p w =
     let q = withCounts (backoffAt (up (p .counts .backoff)) (p .counts)) p in
     let v : Well q = recounted (q .counts) p (let x = w .counts in omega (arith, up-small (p .counts .backoff))) w in
-    choice Well (leb 2000 (q .counts .backoff)) (enterIdle q) q (idle-well q v) v
+    choice Well (leb 2000 (q .counts .backoff)) (enter Idle q) q (idle-well q v) v
 
 error-delay-rule : (p : Port) → Well p → WellMove (errorDelay p)
 unfolding errorDelay
 error-delay-rule p w =
     let q = withCounts (errorDelayAt (up (p .counts .«error_delay»)) (p .counts)) p in
     let v : Well q = recounted (q .counts) p (let x = w .counts in omega (arith, up-small (p .counts .«error_delay»))) w in
-    choice Well (leb 750 (q .counts .«error_delay»)) (enterIdle q) q (idle-well q v) v
+    choice Well (leb 750 (q .counts .«error_delay»)) (enter Idle q) q (idle-well q v) v
 
 classed-rule : (k : Classing) (q : Port) → WellClass k → Well q → WellMove (classed k q)
 unfolding classed
@@ -257,8 +257,8 @@ power-up-rule p r w =
     let q = withCounts (powerOnAt (up (p .counts .«power_on»)) (stressed r (p .counts))) p in
     let x = stressed-well r (p .counts) (w .counts) in
     let v : Well q = recounted (q .counts) p (omega (arith, up-small (p .counts .«power_on»))) w in
-    watched-rule q (enterErrorDelay q) _ (error-delay-well q v)
-    (choice Well (leb 400 (q .counts .«power_on»)) (enterIdle q) _ (idle-well q v) (choice Well (r .settled) (enterPowerOn q) q (power-on-well q v) v))
+    watched-rule q (enter ErrorDelay q) _ (error-delay-well q v)
+    (choice Well (leb 400 (q .counts .«power_on»)) (enter Idle q) _ (idle-well q v) (choice Well (r .settled) (enter PowerOn q) q (power-on-well q v) v))
 
 power-on-rule : (p : Port) (r : Reading) → Well p → WellMove (powerOn p r)
 unfolding powerOn
@@ -267,7 +267,7 @@ power-on-rule p r w =
     let x = stressed-well r (p .counts) (w .counts) in
     let v : Well q = recounted (q .counts) p (omega (arith, during-small (not (r .load)) (p .counts .«no_load»))) w in
     let i = idle-well q v in
-    watched-rule q (enterErrorDelay q) _ (error-delay-well q v)
+    watched-rule q (enter ErrorDelay q) _ (error-delay-well q v)
     (choice WellMove (leb 320 (q .counts .«no_load»)) _ _ (record { counts = i .counts; class = i .class; control = i .control; demand = i .demand }) v)
 
 test-mode-rule : (p : Port) (r : Reading) → Well p → WellMove (testMode p r)
@@ -275,11 +275,11 @@ unfolding testMode
 test-mode-rule p r w =
     let q = withCounts (stressed r (p .counts)) p in
     let v : Well q = recounted (q .counts) p (stressed-well r (p .counts) (w .counts)) w in
-    choice WellMove (isForced (enableOf (p .control))) _ _ (watched-rule q (enterTestError q) _ (test-error-well q v) v) (idle-well q v)
+    choice WellMove (isForced (enableOf (p .control))) _ _ (watched-rule q (enter TestError q) _ (test-error-well q v) v) (idle-well q v)
 
 test-error-rule : (p : Port) → Well p → WellMove (testError p)
 unfolding testError
-test-error-rule p w = choice Well (isForced (enableOf (p .control))) p (enterIdle p) w (idle-well p w)
+test-error-rule p w = choice Well (isForced (enableOf (p .control))) p (enter Idle p) w (idle-well p w)
 
 state-rule : (s : State) (p : Port) (r : Reading) → WellClass (r .class) → Well p → WellMove (byState s forced p r)
 unfolding byState
@@ -317,7 +317,7 @@ granted-well TestError p w = w
 shed-well : (p : Port) → Well p → WellMove (shed p)
 unfolding shed
 shed-well p w =
-    let v : Well (cond (inTest (p .state)) (enterTestError p) (enterIdle p)) = choice Well (inTest (p .state)) (enterTestError p) (enterIdle p) (test-error-well p w) (idle-well p w) in
+    let v : Well (cond (inTest (p .state)) (enter TestError p) (enter Idle p)) = choice Well (inTest (p .state)) (enter TestError p) (enter Idle p) (test-error-well p w) (idle-well p w) in
     record { counts = v .counts; class = v .class; control = v .control; demand = v .demand }
 
 -- and so does settling

@@ -12,7 +12,7 @@ use crate::well_made::well_made;
 use port::form::Counts;
 use port::form::Port;
 use port::form::State;
-use port::settle::is_closed;
+use port::closed::is_closed;
 use power::Power;
 use power::Sum;
 use reading::class::budget;

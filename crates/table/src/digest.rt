@@ -2,7 +2,7 @@
 use port::form::Classing;
 use port::form::Detection;
 use port::form::Reading;
-use port::quick::Signs;
+use quick::Signs;
 use reading::class::Class;
 use reading::class::budget;
 use reading::class::class_of_two;

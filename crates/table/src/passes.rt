@@ -1,7 +1,7 @@
 // The supply is shared among the ports of a table that have moved, and every port settles.
 use crate::form::Table;
-use port::settle::rank_in;
-use port::settle::settled_port;
+use settling::rank_in;
+use settling::settled_port;
 use power::Power;
 use share::Claims;
 ghost use mathlib.Core.Path.{_≡_};

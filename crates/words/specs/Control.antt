@@ -1,6 +1,6 @@
 -- Document 01, "Words on the management side": the control word.
 use Prim.Native.Nat.{ℕ, _+_, _*_}
-use mathlib.Core.Bool.{Bool, _||_, not}
+use mathlib.Core.Bool.{Bool, true, false, _||_, not}
 use lib.Dec.{eqb}
 use Rattle.lists.specs.Bits.{field, above, choose}
 use Rattle.words.specs.declared.control.Enable.{Enable}
@@ -17,6 +17,25 @@ enableCode Disabled = 0
 enableCode Enabled = 1
 enableCode Forced = 2
 enableCode Reserved = 3
+
+-- enable 00, 01 and 10 of the port's move: 11 is none of them
+abbrev pub isOff : Enable → Bool
+isOff Disabled = true
+isOff Enabled = false
+isOff Forced = false
+isOff Reserved = false
+
+abbrev pub isOn : Enable → Bool
+isOn Disabled = false
+isOn Enabled = true
+isOn Forced = false
+isOn Reserved = false
+
+abbrev pub isForced : Enable → Bool
+isForced Disabled = false
+isForced Enabled = false
+isForced Forced = true
+isForced Reserved = false
 
 -- "01 alternative A, 10 alternative B, others reserved here"
 abbrev pub pairCode : Pair → ℕ

@@ -8,7 +8,7 @@ use native.Mathlib.Omega.{arith}
 use lib.ListN.{getD, replicate}
 use borrow.Author.Needs.{needs}
 use Rattle.lists.specs.Places.{Filled, filled-none, filled-more, filled-over}
-use Rattle.port.specs.Claim.{rankIn}
+use Rattle.settling.specs.Claim.{rankIn}
 use Rattle.table.specs.declared.form.Table.{Table}
 use Rattle.table.specs.Form.{portAt}
 use Rattle.table.specs.Passes.{ranksOf}

@@ -9,7 +9,7 @@ use native.Mathlib.Omega.{arith}
 use lib.ListN.{length, getD, length-map}
 use borrow.Author.Needs.{needs}
 use Rattle.lists.specs.Places.{Filled, filled-none, filled-more, filled-below}
-use Rattle.port.specs.Claim.{settledAs}
+use Rattle.settling.specs.Claim.{settledAs}
 use Rattle.port.specs.declared.form.Port.{Port}
 use Rattle.table.specs.declared.form.Table.{Table}
 use Rattle.table.specs.Form.{noPort, portAt}

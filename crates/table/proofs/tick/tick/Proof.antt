@@ -16,7 +16,7 @@ use Rattle.lists.specs.Tests.{and-left, and-right}
 use Rattle.power.specs.Power.{tenths, forced}
 use Rattle.reading.specs.Sample.{sampleAt}
 use Rattle.port.specs.Form.{withCounts, quietly}
-use Rattle.port.specs.Step.{step}
+use Rattle.diagram.specs.Step.{step}
 use Rattle.port.specs.declared.form.Moved.{Moved}
 use Rattle.port.specs.declared.form.Port.{Port}
 use Rattle.table.specs.declared.form.Table.{Table}

@@ -1,0 +1,111 @@
+-- The claim of a port and what the sharing does to it, by what the passes over the places hand on: the state after the move, a control
+-- word and a rank in place of a whole move. A reader needs none of this: `rank` and `settled` are the meaning, and the laws here say that it is theirs.
+-- Assumes nothing.
+use Prim.Native.Nat.{ℕ, _+_, _<_}
+use mathlib.Core.Path.{_≡_, refl, ap}
+use mathlib.Core.Bool.{Bool, true, false, cond, _&&_, false≢true}
+use native.Mathlib.Omega.{arith}
+use lib.Dec.{leb, ltb}
+use borrow.Author.Tests.{le-leb, lt-leb, lt-ltb}
+use Rattle.power.specs.declared.Power.{Power}
+use Rattle.words.specs.Control.{priorityOf}
+use Rattle.words.specs.declared.control.Priority.{Priority}
+use Rattle.words.specs.declared.control.Priority.the-variants.{Unknown, Critical, High, Low}
+use Rattle.port.specs.declared.form.State.{State}
+use Rattle.port.specs.declared.form.State.the-variants.{Disabled, Idle, Detecting, Backoff, Classifying, PowerUp, PowerOn, ErrorDelay, TestMode, TestError}
+use Rattle.port.specs.declared.form.Port.{Port}
+use Rattle.port.specs.declared.form.Moved.{Moved}
+use Rattle.port.specs.declared.form.Reading.{Reading}
+use Rattle.diagram.specs.Open.{held}
+use Rattle.port.specs.Closed.{closed}
+use Rattle.settling.specs.Settle.{urgency, rank, granted, shed, settled}
+use Rattle.diagram.specs.Step.{step}
+
+-- the rank, by the state after the move, the control word and whether the port asks
+unfoldable pub rankIn : State → ℕ → Bool → ℕ
+rankIn now control asks =
+    cond (closed now) (urgency (priorityOf control))
+    (cond asks (3 + urgency (priorityOf control))
+    6)
+
+-- what is closed after the move was closed before it
+pub rank-in : (claim : Power) (p : Port) (r : Reading)
+    → rankIn (step claim p r .port .state) (step claim p r .port .control) (step claim p r .asks) ≡ rank (p .state) (step claim p r)
+unfolding rankIn rank
+rank-in claim p r =
+    let m = step claim p r in
+    ap (λ (b : Bool). cond b (urgency (priorityOf (m .port .control))) (cond (m .asks) (3 + urgency (priorityOf (m .port .control))) 6)) (held claim p r)
+
+urgency-small : (u : Priority) → urgency u < 3
+urgency-small Critical = omega arith
+urgency-small High = omega arith
+urgency-small Low = omega arith
+urgency-small Unknown = omega arith
+
+-- a port that does not ask claims exactly if it is closed
+pub claims-closed : (now : State) (control : ℕ) → ltb (rankIn now control false) 6 ≡ closed now
+unfolding rankIn
+claims-closed now control = go (closed now)
+  where
+    go : (b : Bool) → ltb (cond b (urgency (priorityOf control)) 6) 6 ≡ b
+    go true = lt-ltb (urgency (priorityOf control)) 6 (omega (arith, urgency-small (priorityOf control)))
+    go false = refl
+
+-- the port after the sharing, by the rank of its claim, which tells who asked
+unfoldable pub settledAs : ℕ → Bool → Port → Port
+settledAs r kept p =
+    cond (leb 6 r) p
+    (cond kept (cond (leb 3 r) (granted (p .state) p) p)
+    (shed p .port))
+
+-- a closed port is where it would be granted to be
+granted-closed : (s : State) (p : Port) → closed s ≡ true → granted s p ≡ p
+unfolding granted
+granted-closed Disabled p e = absurd (false≢true e)
+granted-closed Idle p e = absurd (false≢true e)
+granted-closed Detecting p e = absurd (false≢true e)
+granted-closed Backoff p e = absurd (false≢true e)
+granted-closed Classifying p e = absurd (false≢true e)
+granted-closed PowerUp p e = refl
+granted-closed PowerOn p e = refl
+granted-closed ErrorDelay p e = absurd (false≢true e)
+granted-closed TestMode p e = refl
+granted-closed TestError p e = absurd (false≢true e)
+
+either-way : (a : Bool) (p : Port) → cond a p p ≡ p
+either-way true p = refl
+either-way false p = refl
+
+module _ (before : State) (m : Moved) (kept : Bool) where
+  abbrev Same : ℕ → Type 0
+  Same r = settledAs r kept (m .port) ≡ settled r kept m
+
+  -- closed before and still: nothing is granted to it
+  holds : (u : ℕ) → u < 3 → closed (m .port .state) ≡ true → Same u
+  unfolding settledAs settled
+  holds u h e = simp (lt-leb 6 u (omega arith), lt-leb 3 u (omega arith), granted-closed (m .port .state) (m .port) e, either-way (m .asks) (m .port))
+
+  asks : (u : ℕ) → u < 3 → m .asks ≡ true → Same (3 + u)
+  unfolding settledAs settled
+  asks u h e = simp (lt-leb 6 (3 + u) (omega arith), le-leb 3 (3 + u) (omega arith), e)
+
+  none : Same 6
+  unfolding settledAs settled
+  none = refl
+
+  pub settled-as : settledAs (rank before m) kept (m .port) ≡ settled (rank before m) kept m
+  unfolding rank
+  settled-as = go (closed before) (closed (m .port .state)) (m .asks) refl refl
+    where
+      u : ℕ
+      u = urgency (priorityOf (m .port .control))
+
+      small : u < 3
+      small = urgency-small (priorityOf (m .port .control))
+
+      go : (b n a : Bool) → closed (m .port .state) ≡ n → m .asks ≡ a → Same (cond (b && n) u (cond a (3 + u) 6))
+      go true true a x y = holds u small x
+      go true false true x y = asks u small y
+      go true false false x y = none
+      go false n true x y = asks u small y
+      go false n false x y = none
