@@ -113,21 +113,16 @@ pub fn latching(latched: Latches, port: Port) -> Moved
 {
     let before = port.latches;
     let latches = before.join(latched);
-    let after = Port { latches, ..port };
-    Moved {
-        port: after,
-        latched,
-        asks: false,
-    }
+    let moved = quietly(Port { latches, ..port });
+    Moved { latched, ..moved }
 }
 
 pub fn asking(port: Port) -> Moved
     ensures { λ r. ⌜ r ≡ asking port ⌝ }
 {
-    let latched = Latches::NONE;
+    let moved = quietly(port);
     Moved {
-        port,
-        latched,
         asks: true,
+        ..moved
     }
 }

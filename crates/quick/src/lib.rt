@@ -1,10 +1,10 @@
 // Most moves change counters and nothing else. Which do is told at a glance, without the whole step and its copies of the port.
+use diagram::limits;
 use port::entry::during;
 use port::entry::up;
 use port::form::Counts;
 use port::form::Port;
 use port::form::State;
-use diagram::limits;
 use power::Power;
 use words::control::Enable;
 use words::control::enable_of;

@@ -1,8 +1,8 @@
 // The supply is shared among the ports of a table that have moved, and every port settles.
 use crate::form::Table;
+use power::Power;
 use settling::rank_in;
 use settling::settled_port;
-use power::Power;
 use share::Claims;
 ghost use mathlib.Core.Path.{_≡_};
 ghost use Prim.Native.Nat.{_≤_};

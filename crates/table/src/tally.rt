@@ -1,7 +1,7 @@
 // What the closed ports draw, and the masks that name them.
 use crate::form::Table;
-use port::form::Port;
 use port::closed::is_closed;
+use port::form::Port;
 use power::Sum;
 use words::control::Pair;
 use words::control::pair_of;

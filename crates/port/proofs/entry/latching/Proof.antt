@@ -1,4 +1,4 @@
--- `latching` is `latching`: what was latched before is joined by a call.
+-- `latching` is `latching`: a quiet move but for what is latched, which joins what was latched before.
 -- Assumes nothing.
 use borrow.Author.Needs.{needs}
 use Rattle.port.proofs.entry.latching.Statement.{statement}
@@ -9,4 +9,5 @@ latching-spec =
     tie.close
     (tie.spec
     (λ c κs. search needs)
-    (λ c. simp (c .before .before .join .ensures)))
+    (λ c κs. search needs)
+    (λ c. simp (c .before .quietly .ensures, c .before .before .before .before .join .ensures)))
