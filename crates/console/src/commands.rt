@@ -47,7 +47,7 @@ fn cold(line: &[u8], table: Table, out: &mut [u8], at: usize) -> Held {
     if !a.ok {
         return bad(table, out, at);
     }
-    let told = table::calls::cold_start(a.n[0]);
+    let told = calls::cold_start(a.n[0]);
     let answer = told.answer;
     let to = crate::answers::answer(out, at, answer);
     match answer {
@@ -67,7 +67,7 @@ fn control(line: &[u8], table: Table, out: &mut [u8], at: usize) -> Held {
     if !a.ok {
         return bad(table, out, at);
     }
-    answered(table::calls::write_control(table, a.n[0], a.n[1]), out, at)
+    answered(calls::write_control(table, a.n[0], a.n[1]), out, at)
 }
 
 fn request(line: &[u8], table: Table, out: &mut [u8], at: usize) -> Held {
@@ -75,7 +75,7 @@ fn request(line: &[u8], table: Table, out: &mut [u8], at: usize) -> Held {
     if !a.ok {
         return bad(table, out, at);
     }
-    answered(table::calls::request(table, a.n[0], a.n[1]), out, at)
+    answered(calls::request(table, a.n[0], a.n[1]), out, at)
 }
 
 fn status(line: &[u8], table: Table, out: &mut [u8], at: usize) -> Held {
@@ -83,7 +83,7 @@ fn status(line: &[u8], table: Table, out: &mut [u8], at: usize) -> Held {
     if !a.ok {
         return bad(table, out, at);
     }
-    let told = table::calls::read_status(table, a.n[0]);
+    let told = calls::read_status(table, a.n[0]);
     let after = told.table;
     let answer = told.answer;
     let to = crate::answers::status(out, at, answer);
@@ -133,7 +133,7 @@ fn dump(line: &[u8], table: Table, out: &mut [u8], at: usize) -> usize {
 }
 
 fn ticked(block: &[u8], figure: u64, table: Table, out: &mut [u8], at: usize) -> Held {
-    let told = table::tick::tick(table, block, figure);
+    let told = tick::tick(table, block, figure);
     let after = told.table;
     let answer = told.answer;
     let to = crate::answers::closed(out, at, answer);

@@ -122,7 +122,7 @@ fn ticks(table: Table, block: &[u8], figure: u64, times: u64) -> Table {
     let mut now = table;
     let mut left = times;
     while 0 < left {
-        let ticked = table::tick::tick(now, block, figure);
+        let ticked = tick::tick(now, block, figure);
         let next = ticked.table;
         let answer = ticked.answer;
         if left == 1 {
@@ -135,7 +135,7 @@ fn ticks(table: Table, block: &[u8], figure: u64, times: u64) -> Table {
 }
 
 fn start(table: Table, ports: u64) -> Table {
-    let told_now = table::calls::cold_start(ports);
+    let told_now = calls::cold_start(ports);
     let answer = told_now.answer;
     told(answer);
     match answer {
@@ -145,21 +145,21 @@ fn start(table: Table, ports: u64) -> Table {
 }
 
 fn control(table: Table, port: u64, word: u64) -> Table {
-    let t = table::calls::write_control(table, port, word);
+    let t = calls::write_control(table, port, word);
     let answer = t.answer;
     told(answer);
     t.table
 }
 
 fn request(table: Table, port: u64, value: u64) -> Table {
-    let t = table::calls::request(table, port, value);
+    let t = calls::request(table, port, value);
     let answer = t.answer;
     told(answer);
     t.table
 }
 
 fn status(table: Table, port: u64) -> Table {
-    let t = table::calls::read_status(table, port);
+    let t = calls::read_status(table, port);
     let answer = t.answer;
     status_told(answer);
     t.table
@@ -193,7 +193,7 @@ fn single(byte: u8) -> u64 {
 fn main() {
     let mut script = io::large_buffer();
     let len = io::read_full(0, &mut script);
-    let mut table = table::calls::cold_start(0).table;
+    let mut table = calls::cold_start(0).table;
     let mut at: usize = 0;
     while at < 65_000 {
         if len < at + 10 {

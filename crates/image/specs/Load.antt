@@ -16,7 +16,7 @@ use Rattle.port.specs.declared.form.Counts.{Counts}
 use Rattle.port.specs.declared.form.Port.{Port}
 use Rattle.port.specs.declared.form.State.{State}
 use Rattle.port.specs.declared.form.State.the-variants.{Disabled, Idle, Detecting, Backoff, Classifying, PowerUp, PowerOn, ErrorDelay, TestMode, TestError}
-use Rattle.table.specs.Calls.{coldTable}
+use Rattle.calls.specs.Calls.{coldTable}
 use Rattle.table.specs.declared.form.Table.{Table}
 use Rattle.image.specs.declared.load.Loaded.{Loaded}
 

@@ -8,7 +8,7 @@ use words::status::Latches;
 ghost use mathlib.Core.Path.{_≡_};
 ghost use Prim.Native.Nat.{_+_, _<_};
 ghost use lib.ListN.{length};
-ghost use Rattle.table.specs.Calls.{coldTable};
+ghost use Rattle.calls.specs.Calls.{coldTable};
 ghost use Rattle.image.specs.Load.{stateOf, latchesOf, wordAt, countsIn, portIn, portReads, tableOf, reads, loaded};
 
 // An enum holds no array, so whether the bytes were an image stands beside the table.
@@ -120,7 +120,7 @@ fn reads(bytes: &[u8]) -> bool
 fn blank() -> Table
     ensures { λ r. ⌜ r ≡ coldTable 0 ⌝ }
 {
-    table::calls::cold_start(0).table
+    calls::cold_start(0).table
 }
 
 fn table_of(bytes: &[u8]) -> Table

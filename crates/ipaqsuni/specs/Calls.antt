@@ -2,8 +2,8 @@
 use Prim.Native.Nat.{ℕ}
 use mathlib.Core.Bool.{cond}
 use mathlib.Core.List.{List}
-use Rattle.table.specs.Calls.{coldStart, writeControl, readStatus, request}
-use Rattle.table.specs.Tick.{tick}
+use Rattle.calls.specs.Calls.{coldStart, writeControl, readStatus, request}
+use Rattle.tick.specs.Tick.{tick}
 use Rattle.table.specs.declared.form.Table.{Table}
 use Rattle.table.specs.declared.form.Answer.{Answer}
 use Rattle.table.specs.declared.form.Answer.the-variants.{Done, Refused}

@@ -35,7 +35,7 @@ pub extern "C" fn ipaqsuni_cold_start(table: &mut [u8], ports: u32) -> u32
     if table.len() != 1_014 {
         return 13;
     }
-    keep(table::calls::cold_start(ports as u64), table)
+    keep(calls::cold_start(ports as u64), table)
 }
 
 #[no_mangle]
@@ -49,7 +49,7 @@ pub extern "C" fn ipaqsuni_write_control(table: &mut [u8], port: u32, word: u32)
     }
     let before = lent.table;
     keep(
-        table::calls::write_control(before, port as u64, word as u64),
+        calls::write_control(before, port as u64, word as u64),
         table,
     )
 }
@@ -65,7 +65,7 @@ pub extern "C" fn ipaqsuni_read_status(table: &mut [u8], port: u32, status: &mut
         return 13;
     }
     let before = lent.table;
-    let told = table::calls::read_status(before, port as u64);
+    let told = calls::read_status(before, port as u64);
     let answer = told.answer;
     match answer {
         Status::Word(word) => {
@@ -88,10 +88,7 @@ pub extern "C" fn ipaqsuni_request(table: &mut [u8], port: u32, value: u32) -> u
         return 13;
     }
     let before = lent.table;
-    keep(
-        table::calls::request(before, port as u64, value as u64),
-        table,
-    )
+    keep(calls::request(before, port as u64, value as u64), table)
 }
 
 #[no_mangle]
@@ -114,7 +111,7 @@ pub extern "C" fn ipaqsuni_tick(
         return 13;
     }
     let before = lent.table;
-    let told = table::tick::tick(before, samples, supply as u64);
+    let told = tick::tick(before, samples, supply as u64);
     let answer = told.answer;
     match answer {
         Closed::Ports(mask_a, mask_b, number) => {

@@ -29,7 +29,7 @@ fn lap(from: Ran, blocks: &[u8], size: usize, figures: &[u8], ticks: u64) -> Ran
     let mut left = ticks;
     while 0 < left {
         let before = told.table;
-        told = table::tick::tick(before, part(blocks, block, size), word(figures, figure));
+        told = tick::tick(before, part(blocks, block, size), word(figures, figure));
         let answer = told.answer;
         sum = mix::closed(sum, answer);
         block = next(blocks, block, size);

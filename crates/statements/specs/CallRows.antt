@@ -19,9 +19,10 @@ use Rattle.port.specs.declared.form.Counts.{Counts}
 use Rattle.port.specs.declared.form.Port.{Port}
 use Rattle.port.specs.declared.form.State.{State}
 use Rattle.port.specs.declared.form.State.the-variants.{Disabled, Idle, Detecting, Backoff, Classifying, PowerUp, PowerOn, ErrorDelay, TestMode, TestError}
-use Rattle.table.specs.Calls.{coldPort, coldTable, coldStart, sameAlternative, withControl, controlled, writeControl, condition, unlatched, statusAt, readStatus, levelOf, draws, closedSum, demanding, granting, requested, request}
+use Rattle.calls.specs.Calls.{coldPort, coldTable, coldStart, sameAlternative, withControl, controlled, writeControl, condition, unlatched, statusAt, readStatus, levelOf, demanding, granting, requested, request}
+use Rattle.table.specs.Drawn.{draws, closedSum}
 use Rattle.table.specs.Form.{zeroCounts, portAt, withPort, done, refuse, tells, refuseStatus, refuseTick}
-use Rattle.table.specs.Tick.{answered, flagsTaken, tickWith, tick}
+use Rattle.tick.specs.Tick.{answered, flagsTaken, tickWith, tick}
 use Rattle.table.specs.WellMade.{wellCounts, wellPort, wellMade}
 use Rattle.table.specs.declared.form.Answer.the-variants.{Done}
 use Rattle.table.specs.declared.form.Status.the-variants.{Word}

@@ -19,7 +19,7 @@ use Rattle.port.specs.declared.form.Moved.{Moved}
 use Rattle.port.specs.declared.form.Port.{Port}
 use Rattle.port.specs.declared.form.State.{State}
 use Rattle.port.specs.declared.form.State.the-variants.{Disabled, Idle, Detecting, Backoff, Classifying, PowerUp, PowerOn, ErrorDelay, TestMode, TestError}
-use Rattle.table.specs.Calls.{draws}
+use Rattle.table.specs.Drawn.{draws}
 
 -- a shed port is open
 pub shed-open : (p : Port) → closed (shed p .port .state) ≡ false

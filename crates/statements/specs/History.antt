@@ -13,9 +13,9 @@ use Rattle.reading.specs.declared.signature.Signature.{Signature}
 use Rattle.reading.specs.declared.signature.Signature.the-variants.{Valid, Invalid, Open}
 use Rattle.port.specs.declared.form.State.{State}
 use Rattle.port.specs.declared.form.State.the-variants.{Disabled, Idle, Detecting, Backoff, Classifying, PowerUp, PowerOn, ErrorDelay, TestMode, TestError}
-use Rattle.table.specs.Calls.{coldStart, writeControl, readStatus, request}
+use Rattle.calls.specs.Calls.{coldStart, writeControl, readStatus, request}
 use Rattle.table.specs.Form.{portAt}
-use Rattle.table.specs.Tick.{tick}
+use Rattle.tick.specs.Tick.{tick}
 use Rattle.table.specs.declared.form.Closed.{Closed}
 use Rattle.table.specs.declared.form.Closed.the-variants.{Ports, Refused}
 use Rattle.table.specs.declared.form.Table.{Table}

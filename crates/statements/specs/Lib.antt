@@ -2,6 +2,7 @@ pub mod CallRows
 pub mod Cases
 pub mod Diagram
 pub mod History
+pub mod Kept
 pub mod Limits
 pub mod MoveRows
 pub mod Reached
@@ -14,4 +15,5 @@ pub mod Statement3
 pub mod TlvRows
 pub mod Unique
 pub mod Weaker
+pub mod Well
 pub mod WrongCores

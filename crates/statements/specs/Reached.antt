@@ -20,12 +20,14 @@ use Rattle.settling.specs.Settle.{settled}
 use Rattle.diagram.specs.Step.{step}
 use Rattle.port.specs.declared.form.Port.{Port}
 use Rattle.port.specs.declared.form.State.{State}
-use Rattle.table.specs.Calls.{coldPort, coldTable, coldStart, inDisabled, sameAlternative, withControl, controlled, writeControl, unlatched, statusAt, readStatus, levelOf, inPowerOn, closedSum, demanding, granting, requested, request}
-use Rattle.table.specs.Digest.{digest}
+use Rattle.calls.specs.Calls.{coldPort, coldTable, coldStart, inDisabled, sameAlternative, withControl, controlled, writeControl, unlatched, statusAt, readStatus, levelOf, inPowerOn, demanding, granting, requested, request}
+use Rattle.table.specs.Drawn.{closedSum}
+use Rattle.tick.specs.Digest.{digest}
 use Rattle.table.specs.Form.{noPort, portAt, withPort, done, refuse, tells, refuseStatus, refuseTick}
-use Rattle.table.specs.Kept.{after-well, controlled-well, unlatched-well, demanding-well, cold-well, port-after-at}
-use Rattle.table.specs.Laws.{well-count, count-after}
-use Rattle.table.specs.Tick.{movedAt, rankAt, keptAt, portAfter, tableAfter, answered, flagsTaken, tickWith, tick}
+use Rattle.statements.specs.Kept.{after-well, controlled-well, unlatched-well, demanding-well, cold-well, port-after-at}
+use Rattle.table.specs.Laws.{well-count}
+use Rattle.tick.specs.Laws.{count-after}
+use Rattle.tick.specs.Tick.{movedAt, rankAt, keptAt, portAfter, tableAfter, answered, flagsTaken, tickWith, tick}
 use Rattle.table.specs.WellMade.{wellMade}
 use Rattle.table.specs.declared.form.Table.{Table}
 use Rattle.table.specs.declared.form.StatusRead.{StatusRead}

@@ -20,12 +20,12 @@ use Rattle.port.specs.declared.form.Moved.{Moved}
 use Rattle.port.specs.declared.form.Port.{Port}
 use Rattle.share.specs.Laws.{more-keeps, kept-sum-fits}
 use Rattle.share.specs.Share.{keeps, sumWhere, keptSum}
-use Rattle.table.specs.Calls.{draws, closedSum}
-use Rattle.table.specs.Digest.{digest}
+use Rattle.table.specs.Drawn.{draws, closedSum}
+use Rattle.tick.specs.Digest.{digest}
 use Rattle.table.specs.Form.{portAt}
-use Rattle.table.specs.Kept.{port-after-at}
-use Rattle.table.specs.Laws.{count-after}
-use Rattle.table.specs.Tick.{movedAt, rankAt, claimAt, keptAt, portAfter, tableAfter, closedAt}
+use Rattle.statements.specs.Kept.{port-after-at}
+use Rattle.tick.specs.Laws.{count-after}
+use Rattle.tick.specs.Tick.{movedAt, rankAt, claimAt, keptAt, portAfter, tableAfter, closedAt}
 use Rattle.table.specs.declared.form.Table.{Table}
 use Rattle.diagram.specs.Open.{open-stays}
 use Rattle.statements.specs.Diagram.{shed-open, granted-demand, draws-at-most, draws-open, no-claim-open}

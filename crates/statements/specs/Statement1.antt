@@ -15,9 +15,10 @@ use Rattle.power.specs.Power.{tenths, atMost, fits, sumOf, supplyOf}
 use Rattle.power.specs.declared.Supply.the-variants.{Is, TooLarge}
 use Rattle.reading.specs.Class.{budgetOf}
 use Rattle.words.specs.Control.{refused}
-use Rattle.table.specs.Calls.{coldTable, coldStart, inDisabled, sameAlternative, withControl, controlled, writeControl, statusAt, readStatus, levelOf, inPowerOn, closedSum, demanding, granting, requested, request}
+use Rattle.calls.specs.Calls.{coldTable, coldStart, inDisabled, sameAlternative, withControl, controlled, writeControl, statusAt, readStatus, levelOf, inPowerOn, demanding, granting, requested, request}
+use Rattle.table.specs.Drawn.{closedSum}
 use Rattle.table.specs.Form.{portAt, withPort, done, refuse, tells, refuseStatus, refuseTick}
-use Rattle.table.specs.Tick.{tableAfter, answered, flagsTaken, tickWith, tick}
+use Rattle.tick.specs.Tick.{tableAfter, answered, flagsTaken, tickWith, tick}
 use Rattle.table.specs.WellMade.{wellMade}
 use Rattle.table.specs.declared.form.Answer.{Answer}
 use Rattle.table.specs.declared.form.Answer.the-variants.{Done, Refused}

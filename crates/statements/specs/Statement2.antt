@@ -18,11 +18,12 @@ use Rattle.settling.specs.Settle.{rank, settled}
 use Rattle.diagram.specs.Step.{step}
 use Rattle.port.specs.declared.form.Moved.{Moved}
 use Rattle.share.specs.Share.{keeps}
-use Rattle.table.specs.Digest.{digest}
+use Rattle.tick.specs.Digest.{digest}
 use Rattle.table.specs.Form.{portAt}
-use Rattle.table.specs.Kept.{port-after-at, after-well, closed-number}
-use Rattle.table.specs.Laws.{well-count, count-after}
-use Rattle.table.specs.Tick.{movedAt, rankAt, claimAt, keptAt, portAfter, tableAfter, closedAt, namesA, namesB, maskA, maskB, answered, tick}
+use Rattle.statements.specs.Kept.{port-after-at, after-well, closed-number}
+use Rattle.table.specs.Laws.{well-count}
+use Rattle.tick.specs.Laws.{count-after}
+use Rattle.tick.specs.Tick.{movedAt, rankAt, claimAt, keptAt, portAfter, tableAfter, closedAt, namesA, namesB, maskA, maskB, answered, tick}
 use Rattle.table.specs.WellMade.{wellMade}
 use Rattle.table.specs.declared.form.Closed.{Closed}
 use Rattle.table.specs.declared.form.Closed.the-variants.{Ports}

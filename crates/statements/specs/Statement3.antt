@@ -15,10 +15,10 @@ use Rattle.port.specs.Closed.{closed}
 use Rattle.settling.specs.Settle.{inTest}
 use Rattle.port.specs.declared.form.State.{State}
 use Rattle.port.specs.declared.form.State.the-variants.{Disabled, Idle, Detecting, Backoff, Classifying, PowerUp, PowerOn, ErrorDelay, TestMode, TestError}
-use Rattle.table.specs.Calls.{closedSum}
+use Rattle.table.specs.Drawn.{closedSum}
 use Rattle.table.specs.Form.{portAt}
 use Rattle.table.specs.Laws.{well-count}
-use Rattle.table.specs.Tick.{closedAt, tableAfter, tick}
+use Rattle.tick.specs.Tick.{closedAt, tableAfter, tick}
 use Rattle.table.specs.declared.form.Table.{Table}
 use Rattle.statements.specs.History.{Call, ticked, after, reached, accepted, Shown, nothing, signature, both, shown}
 use Rattle.statements.specs.Reached.{Stopped, Ran, tick-told, reached-well, reached-needs}

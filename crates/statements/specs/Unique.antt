@@ -42,8 +42,10 @@ use Rattle.quick.specs.declared.Signs.{Signs}
 use Rattle.share.specs.Given.{rankOf, demandOf}
 use Rattle.share.specs.Share.{keeps}
 use Rattle.share.specs.declared.Claims.{Claims}
-use Rattle.table.specs.Calls.{coldStart, writeControl, readStatus, request}
-use Rattle.table.specs.Tick.{tick}
+use Rattle.calls.specs.Calls.{coldStart, writeControl, readStatus, request}
+use Rattle.tick.specs.Tick.{tick}
+use Rattle.table.specs.Head.{wellHead}
+use Rattle.table.specs.WellMade.{wellPort, wellMade}
 use Rattle.table.specs.declared.form.StatusRead.{StatusRead}
 use Rattle.table.specs.declared.form.Table.{Table}
 use Rattle.table.specs.declared.form.Ticked.{Ticked}
@@ -114,11 +116,14 @@ pub record Unique : Type 0 where
   pub settling-settled-port : (rank : ℕ) (kept : Bool) (port : Port) → One Port (λ r. r ≡ settledAs rank kept port)
   pub quick-quick : (port : Port) (signs : Signs) → One Glance (λ r. r ≡ quickly port signs)
   pub share-kept : (claims : Claims) (s : Power) → One (List Bool) (λ r. r ≡ tabulate 48 (keeps 48 (rankOf claims) (demandOf claims) (s .0)))
-  pub table-calls-cold-start : (ports : ℕ) → One Told (λ r. r ≡ coldStart ports)
-  pub table-calls-write-control : (t : Table) (p word : ℕ) → One Told (λ r. r ≡ writeControl t p word)
-  pub table-calls-read-status : (t : Table) (p : ℕ) → One StatusRead (λ r. r ≡ readStatus t p)
-  pub table-calls-request : (t : Table) (p value : ℕ) → One Told (λ r. r ≡ request t p value)
-  pub table-tick-tick : (t : Table) (block : List ℕ) (figure : ℕ) → One Ticked (λ r. r ≡ tick t block figure)
+  pub table-well-made-well-port : (port : Port) → One Bool (λ r. r ≡ wellPort port)
+  pub table-well-made-well-head : (count : ℕ) (supply : Power) → One Bool (λ r. r ≡ wellHead count supply)
+  pub table-well-made-well-made : (t : Table) → One Bool (λ r. r ≡ wellMade t)
+  pub calls-cold-start : (ports : ℕ) → One Told (λ r. r ≡ coldStart ports)
+  pub calls-write-control : (t : Table) (p word : ℕ) → One Told (λ r. r ≡ writeControl t p word)
+  pub calls-read-status : (t : Table) (p : ℕ) → One StatusRead (λ r. r ≡ readStatus t p)
+  pub calls-request : (t : Table) (p value : ℕ) → One Told (λ r. r ≡ request t p value)
+  pub tick-tick : (t : Table) (block : List ℕ) (figure : ℕ) → One Ticked (λ r. r ≡ tick t block figure)
   pub tlv-fields-bad-values : (f : Form) → One Bool (λ r. r ≡ badValues f)
   pub tlv-read-read : (bytes : List ℕ) → One Taken (λ r. r ≡ readOf bytes)
   pub tlv-search-search : (pdu : List ℕ) → One Searched (λ r. r ≡ searchOf pdu)
@@ -180,11 +185,14 @@ unique =
       settling-settled-port = λ rank kept port. one Port (settledAs rank kept port);
       quick-quick = λ port signs. one Glance (quickly port signs);
       share-kept = λ claims s. one (List Bool) (tabulate 48 (keeps 48 (rankOf claims) (demandOf claims) (s .0)));
-      table-calls-cold-start = λ ports. one Told (coldStart ports);
-      table-calls-write-control = λ t p word. one Told (writeControl t p word);
-      table-calls-read-status = λ t p. one StatusRead (readStatus t p);
-      table-calls-request = λ t p value. one Told (request t p value);
-      table-tick-tick = λ t block figure. one Ticked (tick t block figure);
+      table-well-made-well-port = λ port. one Bool (wellPort port);
+      table-well-made-well-head = λ count supply. one Bool (wellHead count supply);
+      table-well-made-well-made = λ t. one Bool (wellMade t);
+      calls-cold-start = λ ports. one Told (coldStart ports);
+      calls-write-control = λ t p word. one Told (writeControl t p word);
+      calls-read-status = λ t p. one StatusRead (readStatus t p);
+      calls-request = λ t p value. one Told (request t p value);
+      tick-tick = λ t block figure. one Ticked (tick t block figure);
       tlv-fields-bad-values = λ f. one Bool (badValues f);
       tlv-read-read = λ bytes. one Taken (readOf bytes);
       tlv-search-search = λ pdu. one Searched (searchOf pdu);

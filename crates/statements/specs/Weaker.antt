@@ -23,10 +23,11 @@ use Rattle.diagram.specs.Rules.{idle, detected, detecting, classed, classifying
 use Rattle.settling.specs.Settle.{rank, granted, shed, settled}
 use Rattle.diagram.specs.Step.{byState, step}
 use Rattle.share.specs.Share.{claims, before, met, sumWhere, down, keeps}
-use Rattle.table.specs.Calls.{coldTable, coldStart, writeControl, controlled, withControl, draws, closedSum}
-use Rattle.table.specs.Digest.{digest}
+use Rattle.calls.specs.Calls.{coldTable, coldStart, writeControl, controlled, withControl}
+use Rattle.table.specs.Drawn.{draws, closedSum}
+use Rattle.tick.specs.Digest.{digest}
 use Rattle.table.specs.Form.{portAt, withPort, done}
-use Rattle.table.specs.Tick.{movedAt, rankAt, claimAt, keptAt, portAfter, tableAfter, closedAt, flagsTaken, tickWith, answered, tick}
+use Rattle.tick.specs.Tick.{movedAt, rankAt, claimAt, keptAt, portAfter, tableAfter, closedAt, flagsTaken, tickWith, answered, tick}
 use Rattle.table.specs.declared.form.Table.{Table}
 use Rattle.table.specs.WellMade.{wellCounts, wellPort, wellMade}
 use Rattle.statements.specs.History.{Call, control, ticked, after, reached, isIdle, showsSignature, givesClass, nothing, signature, both, seen, adds, shown}

@@ -27,11 +27,11 @@ use Rattle.diagram.specs.Step.{byState, step}
 use Rattle.port.specs.declared.form.Port.{Port}
 use Rattle.port.specs.declared.form.State.the-variants.{Classifying}
 use Rattle.share.specs.Share.{claims, before, met, sumWhere, down, keeps}
-use Rattle.table.specs.Calls.{coldPort}
-use Rattle.table.specs.Digest.{digest}
+use Rattle.calls.specs.Calls.{coldPort}
+use Rattle.tick.specs.Digest.{digest}
 use Rattle.table.specs.Form.{portAt, zeroCounts}
-use Rattle.table.specs.Kept.{closed-number}
-use Rattle.table.specs.Tick.{movedAt, rankAt, claimAt, keptAt, closedAt, namesA, flagsTaken}
+use Rattle.statements.specs.Kept.{closed-number}
+use Rattle.tick.specs.Tick.{movedAt, rankAt, claimAt, keptAt, closedAt, namesA, flagsTaken}
 use Rattle.table.specs.WellMade.{wellCounts, wellPort, wellMade}
 use Rattle.table.specs.declared.form.Closed.{Closed}
 use Rattle.table.specs.declared.form.Closed.the-variants.{Ports, Refused}

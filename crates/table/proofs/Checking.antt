@@ -12,7 +12,7 @@ use Rattle.lists.specs.Tests.{and-left, and-right}
 use Rattle.power.specs.Power.{atMost, highestSupply}
 use Rattle.table.specs.declared.form.Table.{Table}
 use Rattle.table.specs.Form.{portAt}
-use Rattle.table.specs.Passes.{wellHead, well-parts}
+use Rattle.table.specs.Head.{wellHead, well-parts}
 use Rattle.table.specs.WellMade.{wellPort, wellMade}
 
 pub below-count : (well : Bool) (k n : ℕ) → (well && ltb k n) ≡ true → k < n

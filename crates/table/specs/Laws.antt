@@ -3,17 +3,14 @@
 use Prim.Native.Nat.{ℕ, _≤_, _<_}
 use mathlib.Core.Path.{_≡_, refl}
 use mathlib.Core.Bool.{true}
-use mathlib.Core.List.{List}
 use lib.Dec.{leb}
 use borrow.Author.Tests.{leb-true}
 use Rattle.lists.specs.Every.{every-at}
 use Rattle.lists.specs.Tests.{and-left, and-right}
 use Rattle.power.specs.Power.{atMost, highestSupply}
-use Rattle.power.specs.declared.Power.{Power}
 use Rattle.port.specs.declared.form.Port.{Port}
 use Rattle.table.specs.declared.form.Table.{Table}
 use Rattle.table.specs.Form.{portAt, withPort}
-use Rattle.table.specs.Tick.{tableAfter}
 use Rattle.table.specs.WellMade.{wellPort, wellMade}
 
 -- a well-made table has at most 48 ports
@@ -32,8 +29,3 @@ well-at t e =
 pub count-with-port : (p : ℕ) (port : Port) (t : Table) → withPort p port t .count ≡ t .count
 unfolding withPort
 count-with-port p port t = refl
-
--- nor does a tick
-pub count-after : (t : Table) (block : List ℕ) (supply : Power) → tableAfter t block supply .count ≡ t .count
-unfolding tableAfter
-count-after t block supply = refl

@@ -1,11 +1,5 @@
-pub mod Calls
-pub mod Digest
+pub mod Drawn
 pub mod Form
-pub mod Kept
+pub mod Head
 pub mod Laws
-pub mod Passes
-pub mod Settling
-pub mod Tally
-pub mod Tick
-pub mod Well
 pub mod WellMade

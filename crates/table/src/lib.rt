@@ -1,10 +1,3 @@
-// The table of a board's ports and its calls: cold start, control write, status read, request and tick.
-mod answers;
-mod block;
-pub mod calls;
-mod digest;
+// The table of a board's ports, and the test that every call makes of it first.
 pub mod form;
-mod passes;
-mod tally;
-pub mod tick;
-mod well_made;
+pub mod well_made;

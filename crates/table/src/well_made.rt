@@ -4,7 +4,7 @@ use port::form::Counts;
 use port::form::Port;
 use power::Power;
 ghost use mathlib.Core.Path.{_≡_};
-ghost use Rattle.table.specs.Passes.{wellHead};
+ghost use Rattle.table.specs.Head.{wellHead};
 ghost use Rattle.table.specs.WellMade.{wellCounts, wellPort, wellMade};
 
 const MOST: u16 = 2_000;

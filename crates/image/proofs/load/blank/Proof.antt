@@ -3,7 +3,7 @@
 use mathlib.Core.Path.{ap}
 use borrow.Author.Needs.{needs}
 use Rattle.table.specs.Form.{refuse}
-use Rattle.table.specs.Calls.{coldStart}
+use Rattle.calls.specs.Calls.{coldStart}
 use Rattle.table.specs.declared.form.Told.{Told}
 use Rattle.image.proofs.load.blank.Statement.{statement}
 use Rattle.image.proofs.load.blank.Tie as tie

@@ -10,7 +10,7 @@ use denote.Ref.{now}
 use Rattle.lists.specs.Places.{Filled, filled-none, filled-more, filled-all}
 use Rattle.power.specs.Power.{tenths}
 use Rattle.table.specs.Form.{noPort}
-use Rattle.table.specs.Calls.{coldPort, coldTable}
+use Rattle.calls.specs.Calls.{coldPort, coldTable}
 use Rattle.table.specs.declared.form.Table.{Table}
 use Rattle.image.specs.Load.{portIn, tableOf}
 use Rattle.image.proofs.load.table_of.Statement.{statement}

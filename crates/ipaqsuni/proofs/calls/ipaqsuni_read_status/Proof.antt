@@ -5,7 +5,7 @@ use mathlib.Core.Path.{_∙_, sym, ap}
 use denote.Ref.{now}
 use borrow.Author.Needs.{needs}
 use borrow.Author.Tests.{not-true, not-false}
-use Rattle.table.specs.Calls.{readStatus}
+use Rattle.calls.specs.Calls.{readStatus}
 use Rattle.ipaqsuni.specs.Calls.{worded, ofStatus, statusCall}
 use Rattle.ipaqsuni.proofs.Lent.{image-stores, no-image, an-image, stored}
 use Rattle.ipaqsuni.proofs.calls.ipaqsuni_read_status.Statement.{statement}

@@ -4,7 +4,7 @@ use mathlib.Core.Path.{_∙_}
 use denote.Ref.{now}
 use borrow.Author.Needs.{needs}
 use borrow.Author.Tests.{not-true, not-false}
-use Rattle.table.specs.Calls.{request}
+use Rattle.calls.specs.Calls.{request}
 use Rattle.ipaqsuni.specs.Calls.{ofTold, requestCall}
 use Rattle.ipaqsuni.proofs.Lent.{image-stores, no-image, an-image}
 use Rattle.ipaqsuni.proofs.calls.ipaqsuni_request.Statement.{statement}

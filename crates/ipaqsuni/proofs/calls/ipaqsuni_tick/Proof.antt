@@ -5,7 +5,7 @@ use mathlib.Core.Path.{_∙_, sym, ap}
 use denote.Ref.{now}
 use borrow.Author.Needs.{needs}
 use borrow.Author.Tests.{not-true, not-false}
-use Rattle.table.specs.Tick.{tick}
+use Rattle.tick.specs.Tick.{tick}
 use Rattle.ipaqsuni.specs.Calls.{masked, ofTick, tickCall}
 use Rattle.ipaqsuni.proofs.Lent.{image-stores, no-image, an-image, stored}
 use Rattle.ipaqsuni.proofs.calls.ipaqsuni_tick.Statement.{statement}

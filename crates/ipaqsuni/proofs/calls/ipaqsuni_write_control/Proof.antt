@@ -4,7 +4,7 @@ use mathlib.Core.Path.{_∙_}
 use denote.Ref.{now}
 use borrow.Author.Needs.{needs}
 use borrow.Author.Tests.{not-true, not-false}
-use Rattle.table.specs.Calls.{writeControl}
+use Rattle.calls.specs.Calls.{writeControl}
 use Rattle.ipaqsuni.specs.Calls.{ofTold, controlCall}
 use Rattle.ipaqsuni.proofs.Lent.{image-stores, no-image, an-image}
 use Rattle.ipaqsuni.proofs.calls.ipaqsuni_write_control.Statement.{statement}

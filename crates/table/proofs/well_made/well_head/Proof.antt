@@ -1,7 +1,7 @@
 -- `well_head` is `wellHead`.
 -- Assumes nothing.
 use borrow.Author.Needs.{needs}
-use Rattle.table.specs.Passes.{wellHead}
+use Rattle.table.specs.Head.{wellHead}
 use Rattle.table.proofs.well_made.well_head.Statement.{statement}
 use Rattle.table.proofs.well_made.well_head.Tie as tie
 

@@ -1,0 +1,68 @@
+-- `settle_all` is `settledAll`: the ports below k have settled, in place.
+-- Assumes nothing.
+use mathlib.Core.Path.{_≡_, refl, sym, _∙_, ap}
+use mathlib.Core.Bool.{Bool, false}
+use mathlib.Core.List.{List}
+use Prim.Native.Nat.{ℕ, _-_, _≤_}
+use native.Mathlib.Nat.{le-refl, le-antisymm}
+use native.Mathlib.Omega.{arith}
+use lib.ListN.{length, getD, length-map}
+use borrow.Author.Needs.{needs}
+use Rattle.lists.specs.Places.{Filled, filled-none, filled-more, filled-below}
+use Rattle.settling.specs.Claim.{settledAs}
+use Rattle.port.specs.declared.form.Port.{Port}
+use Rattle.table.specs.declared.form.Table.{Table}
+use Rattle.table.specs.Form.{noPort, portAt}
+use Rattle.tick.specs.Passes.{settledAll}
+use Rattle.tick.proofs.passes.settle_all.Statement.{statement}
+use Rattle.tick.proofs.passes.settle_all.Tie as tie
+
+abbrev settling : Table → List ℕ → List Bool → ℕ → Port
+settling t ranks kept p = settledAs (getD ranks p 0) (getD kept p false) (portAt t p)
+
+abbrev Inv-loop : tie.InvT-loop
+Inv-loop supply table₀ ranks kept n k₀ table k =
+    (k ≤ n) × Filled noPort (settling table₀ ranks kept) (table₀ .ports) k (table .ports) × (table .count ≡ table₀ .count)
+
+abbrev μ-loop : tie.MeasureT-loop
+μ-loop supply table₀ ranks kept n k₀ table k = n - k
+
+long : (c : tie.Start Inv-loop μ-loop) → length (c .args .t1 .ports) ≡ 48
+long c = sym (length-map (c .args .t1 .ports) _) ∙ c .good .0 .1 .1 .0 .1 .0 .1
+
+pub settle-all-spec : {M : Type 1} → statement M
+unfolding settledAll portAt
+settle-all-spec =
+    tie.close
+    (tie.spec
+    Inv-loop
+    μ-loop
+    (λ c. search needs)
+    (λ c. (search needs, filled-none _ _ _, refl))
+    (λ c. omega arith)
+    (λ c. omega arith)
+    (λ c. omega arith)
+    (λ c. omega arith)
+    (λ c κs. search needs)
+    (λ c. omega arith)
+    (λ c. omega arith)
+    (λ c. omega arith)
+    (λ c. omega arith)
+    (λ c.
+    let s = c .before .before .before .before in
+    let l = c .before .before .before .loop in (
+      omega arith,
+      filled-more noPort (settling (s .args .t1) (s .args .t2) (s .args .t3)) (s .args .t1 .ports) (l .k) (l .table .ports) (c .settled-port .result) (l .inv .1)
+          (omega (arith, long s)) (c .settled-port .ensures ∙ ap (settledAs (getD (s .args .t2) (l .k) 0) (getD (s .args .t3) (l .k) false)) (l .inv .1 .left (l .k) (le-refl (l .k)))),
+      l .inv .2,
+    ))
+    (λ c.
+    let s = c .before .before in
+    let l = c .before .loop in
+    let e : l .k ≡ s .args .t1 .count = le-antisymm (l .inv .0) (c .loop-test .left) in
+    λ k.
+    record {
+      ports = filled-below noPort (settling (s .args .t1) (s .args .t2) (s .args .t3)) (s .args .t1 .ports) 48 (s .args .t1 .count) (l .table .ports) (long s) (rw e at (l .inv .1)) k;
+      count = l .inv .2 k;
+      supply = s .args .supply;
+    }))
