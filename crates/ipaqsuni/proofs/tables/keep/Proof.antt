@@ -4,8 +4,8 @@ use mathlib.Core.Path.{_∙_}
 use denote.Ref.{now}
 use borrow.Author.Needs.{needs}
 use Rattle.ipaqsuni.proofs.Lent.{stored}
-use Rattle.ipaqsuni.proofs.calls.keep.Statement.{statement}
-use Rattle.ipaqsuni.proofs.calls.keep.Tie as tie
+use Rattle.ipaqsuni.proofs.tables.keep.Statement.{statement}
+use Rattle.ipaqsuni.proofs.tables.keep.Tie as tie
 
 pub keep-spec : {M : Type 1} → statement M
 keep-spec =

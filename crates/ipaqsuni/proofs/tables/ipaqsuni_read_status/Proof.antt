@@ -8,8 +8,8 @@ use borrow.Author.Tests.{not-true, not-false}
 use Rattle.calls.specs.Calls.{readStatus}
 use Rattle.ipaqsuni.specs.Calls.{worded, ofStatus, statusCall}
 use Rattle.ipaqsuni.proofs.Lent.{image-stores, no-image, an-image, stored}
-use Rattle.ipaqsuni.proofs.calls.ipaqsuni_read_status.Statement.{statement}
-use Rattle.ipaqsuni.proofs.calls.ipaqsuni_read_status.Tie as tie
+use Rattle.ipaqsuni.proofs.tables.ipaqsuni_read_status.Statement.{statement}
+use Rattle.ipaqsuni.proofs.tables.ipaqsuni_read_status.Tie as tie
 
 pub ipaqsuni-read-status-spec : {M : Type 1} → statement M
 unfolding statusCall

@@ -7,8 +7,8 @@ use borrow.Author.Tests.{not-true, not-false}
 use Rattle.calls.specs.Calls.{request}
 use Rattle.ipaqsuni.specs.Calls.{ofTold, requestCall}
 use Rattle.ipaqsuni.proofs.Lent.{image-stores, no-image, an-image}
-use Rattle.ipaqsuni.proofs.calls.ipaqsuni_request.Statement.{statement}
-use Rattle.ipaqsuni.proofs.calls.ipaqsuni_request.Tie as tie
+use Rattle.ipaqsuni.proofs.tables.ipaqsuni_request.Statement.{statement}
+use Rattle.ipaqsuni.proofs.tables.ipaqsuni_request.Tie as tie
 
 pub ipaqsuni-request-spec : {M : Type 1} → statement M
 unfolding requestCall

@@ -7,8 +7,8 @@ use borrow.Author.Tests.{not-true, not-false}
 use Rattle.calls.specs.Calls.{writeControl}
 use Rattle.ipaqsuni.specs.Calls.{ofTold, controlCall}
 use Rattle.ipaqsuni.proofs.Lent.{image-stores, no-image, an-image}
-use Rattle.ipaqsuni.proofs.calls.ipaqsuni_write_control.Statement.{statement}
-use Rattle.ipaqsuni.proofs.calls.ipaqsuni_write_control.Tie as tie
+use Rattle.ipaqsuni.proofs.tables.ipaqsuni_write_control.Statement.{statement}
+use Rattle.ipaqsuni.proofs.tables.ipaqsuni_write_control.Tie as tie
 
 pub ipaqsuni-write-control-spec : {M : Type 1} → statement M
 unfolding controlCall

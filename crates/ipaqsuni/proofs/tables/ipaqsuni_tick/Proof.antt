@@ -8,8 +8,8 @@ use borrow.Author.Tests.{not-true, not-false}
 use Rattle.tick.specs.Tick.{tick}
 use Rattle.ipaqsuni.specs.Calls.{masked, ofTick, tickCall}
 use Rattle.ipaqsuni.proofs.Lent.{image-stores, no-image, an-image, stored}
-use Rattle.ipaqsuni.proofs.calls.ipaqsuni_tick.Statement.{statement}
-use Rattle.ipaqsuni.proofs.calls.ipaqsuni_tick.Tie as tie
+use Rattle.ipaqsuni.proofs.tables.ipaqsuni_tick.Statement.{statement}
+use Rattle.ipaqsuni.proofs.tables.ipaqsuni_tick.Tie as tie
 
 pub ipaqsuni-tick-spec : {M : Type 1} → statement M
 unfolding tickCall

@@ -5,8 +5,8 @@ use borrow.Author.Needs.{needs}
 use borrow.Author.Tests.{eq-eqb, ne-eqb}
 use Rattle.image.specs.Image.{stores}
 use Rattle.ipaqsuni.specs.Calls.{coldCall}
-use Rattle.ipaqsuni.proofs.calls.ipaqsuni_cold_start.Statement.{statement}
-use Rattle.ipaqsuni.proofs.calls.ipaqsuni_cold_start.Tie as tie
+use Rattle.ipaqsuni.proofs.tables.ipaqsuni_cold_start.Statement.{statement}
+use Rattle.ipaqsuni.proofs.tables.ipaqsuni_cold_start.Tie as tie
 
 pub ipaqsuni-cold-start-spec : {M : Type 1} → statement M
 unfolding coldCall stores
