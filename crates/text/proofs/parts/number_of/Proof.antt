@@ -3,8 +3,8 @@
 use borrow.Author.Needs.{needs}
 use lib.ListN.{length}
 use Prim.Native.Nat.{_≤_, _-_}
-use Rattle.console.proofs.parts.number_of.Statement.{statement}
-use Rattle.console.proofs.parts.number_of.Tie as tie
+use Rattle.text.proofs.parts.number_of.Statement.{statement}
+use Rattle.text.proofs.parts.number_of.Tie as tie
 
 abbrev Inv-loop : tie.InvT-loop
 Inv-loop word n₀ i₀ n i = i ≤ length word

@@ -1,16 +1,16 @@
--- `start` is safe and ends: there are no more spaces than bytes.
+-- `start` is safe and ends: it stays within the line.
 -- Assumes nothing.
-use borrow.Author.Needs.{needs}
 use lib.ListN.{length}
-use Prim.Native.Nat.{_≤_, _-_}
-use Rattle.console.proofs.parts.start.Statement.{statement}
-use Rattle.console.proofs.parts.start.Tie as tie
+use Prim.Native.Nat.{_≤_, _-_, _+_, _/_}
+use borrow.Author.Needs.{needs}
+use Rattle.text.proofs.parts.start.Statement.{statement}
+use Rattle.text.proofs.parts.start.Tie as tie
 
 abbrev Inv-loop : tie.InvT-loop
-Inv-loop line spaces n₀ i₀ n i = (i ≤ length line) × (n ≤ i)
+Inv-loop line spaces left₀ i₀ left i = i ≤ length line
 
 abbrev μ-loop : tie.MeasureT-loop
-μ-loop line spaces n₀ i₀ n i = length line - i
+μ-loop line spaces left₀ i₀ left i = length line - i
 
 pub start-spec : {M : Type 1} → statement M
 start-spec =
@@ -21,7 +21,6 @@ start-spec =
     (λ c. search needs)
     (λ c. search needs)
     (λ c. search needs)
-    (λ c κs. search needs)
     (λ c. search needs)
     (λ c. search needs)
     (λ c. search needs)

@@ -3,8 +3,8 @@
 use borrow.Author.Needs.{needs}
 use lib.Seq.{length-take-le}
 use mathlib.Core.Path.{sym}
-use Rattle.console.proofs.parts.front.Statement.{statement}
-use Rattle.console.proofs.parts.front.Tie as tie
+use Rattle.text.proofs.parts.front.Statement.{statement}
+use Rattle.text.proofs.parts.front.Tie as tie
 
 pub front-spec : {M : Type 1} → statement M
 front-spec =

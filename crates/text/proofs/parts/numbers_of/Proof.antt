@@ -1,9 +1,9 @@
 -- `numbers_of` is safe and ends: the numbers that are left fall.
 -- Assumes nothing.
-use borrow.Author.Needs.{needs}
 use Prim.Native.Nat.{_≤_, _-_}
-use Rattle.console.proofs.parts.numbers_of.Statement.{statement}
-use Rattle.console.proofs.parts.numbers_of.Tie as tie
+use borrow.Author.Needs.{needs}
+use Rattle.text.proofs.parts.numbers_of.Statement.{statement}
+use Rattle.text.proofs.parts.numbers_of.Tie as tie
 
 abbrev Inv-loop : tie.InvT-loop
 Inv-loop line many n₀ i₀ n i = i ≤ many

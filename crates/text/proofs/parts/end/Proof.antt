@@ -1,13 +1,13 @@
--- `end` is safe and ends: the bytes that are left fall.
+-- `end` is safe and ends: it stays within the line.
 -- Assumes nothing.
-use borrow.Author.Needs.{needs}
 use lib.ListN.{length}
-use Prim.Native.Nat.{_-_}
-use Rattle.console.proofs.parts.end.Statement.{statement}
-use Rattle.console.proofs.parts.end.Tie as tie
+use Prim.Native.Nat.{_≤_, _-_, _+_, _/_}
+use borrow.Author.Needs.{needs}
+use Rattle.text.proofs.parts.end.Statement.{statement}
+use Rattle.text.proofs.parts.end.Tie as tie
 
 abbrev Inv-loop : tie.InvT-loop
-Inv-loop line from i₀ i = Unit {0}
+Inv-loop line from i₀ i = (from ≤ i) × (i ≤ length line)
 
 abbrev μ-loop : tie.MeasureT-loop
 μ-loop line from i₀ i = length line - i

@@ -1,5 +1,6 @@
 // The words of a line, each parted from the next by one space, and the numbers and bytes that they are.
-ghost use Prim.Native.Nat.{_≤_};
+ghost use Prim.Native.Nat.{_≤_, _/_};
+ghost use lib.ListN.{length};
 
 // The first bytes of a slice, as far as they go.
 pub fn front(bytes: &[u8], n: usize) -> &[u8] {
@@ -9,38 +10,42 @@ pub fn front(bytes: &[u8], n: usize) -> &[u8] {
     bytes
 }
 
-fn space(b: u8) -> usize
-    ensures { λ r. ⌜ r ≤ 1 ⌝ }
-{
-    if b == b' ' { 1 } else { 0 }
-}
-
 // One more than the spaces: an empty word is counted, and is no command, number or bytes.
 pub fn count(line: &[u8]) -> usize {
-    let mut n: usize = 0;
+    let mut n: usize = 1;
     let mut i = 0;
     while i < line.len() {
-        n += space(line[i]);
+        if line[i] == b' ' {
+            n += 1;
+        }
         i += 1;
     }
-    n + 1
+    n
 }
 
 // Where the word begins that stands after so many spaces.
-fn start(line: &[u8], spaces: usize) -> usize {
-    let mut n: usize = 0;
+fn start(line: &[u8], spaces: usize) -> usize
+    ensures { λ r. ⌜ r ≤ length (now (line .entry)) ⌝ }
+{
+    let mut left = spaces;
     let mut i = 0;
     while i < line.len() {
-        if spaces <= n {
+        if left == 0 {
             return i;
         }
-        n += space(line[i]);
+        if line[i] == b' ' {
+            left -= 1;
+        }
         i += 1;
     }
-    line.len()
+    i
 }
 
-fn end(line: &[u8], from: usize) -> usize {
+// Where the word ends that begins there.
+fn end(line: &[u8], from: usize) -> usize
+    requires { ⌜ from ≤ length (now line) ⌝ }
+    ensures { λ r. ⌜ (from ≤ r) × (r ≤ length (now (line .entry))) ⌝ }
+{
     let mut i = from;
     while i < line.len() {
         if line[i] == b' ' {
@@ -48,18 +53,13 @@ fn end(line: &[u8], from: usize) -> usize {
         }
         i += 1;
     }
-    line.len()
+    i
 }
 
 pub fn word(line: &[u8], k: usize) -> &[u8] {
-    let a = start(line, k);
-    let e = end(line, a);
-    if a <= e {
-        if e <= line.len() {
-            return &line[a..e];
-        }
-    }
-    &line[..0]
+    let from = start(line, k);
+    let to = end(line, from);
+    &line[from..to]
 }
 
 pub enum Number {
@@ -129,7 +129,7 @@ pub fn numbers_of(line: &[u8], many: usize) -> Numbers {
     Numbers { n, ok: true }
 }
 
-// Over 15 for a byte that is no hex digit.
+// 16 for a byte that is no hex digit.
 fn nibble(b: u8) -> u8 {
     match b {
         b'0'..=b'9' => b - b'0',
@@ -139,14 +139,30 @@ fn nibble(b: u8) -> u8 {
     }
 }
 
+fn all_hex(word: &[u8]) -> bool {
+    let mut i = 0;
+    while i < word.len() {
+        if 15 < nibble(word[i]) {
+            return false;
+        }
+        i += 1;
+    }
+    true
+}
+
+// Asked only of two hex digits.
 fn pair(high: u8, low: u8) -> u8 {
-    if 15 < high {
-        return 0;
+    16 * (nibble(high) % 16) + nibble(low) % 16
+}
+
+fn fill(word: &[u8], room: &mut [u8])
+    requires { ⌜ length (now word) / 2 ≤ length (now room) ⌝ }
+{
+    let mut i = 0;
+    while i < word.len() / 2 {
+        room[i] = pair(word[2 * i], word[2 * i + 1]);
+        i += 1;
     }
-    if 15 < low {
-        return 0;
-    }
-    16 * high + low
 }
 
 pub enum Bytes {
@@ -155,31 +171,13 @@ pub enum Bytes {
     Bad,
 }
 
-fn pairs(word: &[u8], room: &mut [u8]) -> Bytes {
-    let n = word.len() / 2;
-    if room.len() < n {
-        return Bytes::Bad;
-    }
-    let mut i = 0;
-    while i < n {
-        let high = nibble(word[2 * i]);
-        let low = nibble(word[2 * i + 1]);
-        if 15 < high {
-            return Bytes::Bad;
-        }
-        if 15 < low {
-            return Bytes::Bad;
-        }
-        room[i] = pair(high, low);
-        i += 1;
-    }
-    Bytes::Are(n)
-}
-
-// Pairs of hex digits in either case, or `-` for no bytes.
+// Pairs of hex digits in either case, or `-` for no bytes. A bad word leaves the room as it is.
 pub fn bytes_of(word: &[u8], room: &mut [u8]) -> Bytes {
-    if check::same(word, b"-") {
-        return Bytes::Are(0);
+    let n = word.len() / 2;
+    if word.len() == 1 {
+        if word[0] == b'-' {
+            return Bytes::Are(0);
+        }
     }
     if word.len() < 1 {
         return Bytes::Bad;
@@ -187,5 +185,12 @@ pub fn bytes_of(word: &[u8], room: &mut [u8]) -> Bytes {
     if word.len() % 2 != 0 {
         return Bytes::Bad;
     }
-    pairs(word, room)
+    if room.len() < n {
+        return Bytes::Bad;
+    }
+    if !all_hex(word) {
+        return Bytes::Bad;
+    }
+    fill(word, room);
+    Bytes::Are(n)
 }
