@@ -1,9 +1,14 @@
 // The words of a line, each parted from the next by one space, and the numbers and bytes that they are.
-ghost use Prim.Native.Nat.{_≤_, _/_};
-ghost use lib.ListN.{length};
+ghost use mathlib.Core.Path.{_≡_};
+ghost use Prim.Native.Nat.{_≤_, _/_, _-_};
+ghost use lib.ListN.{length, take, drop, getD};
+ghost use Rattle.text.specs.Decimal.{moreOf, numberIn};
+ghost use Rattle.text.specs.Words.{words, wordAt};
 
 // The first bytes of a slice, as far as they go.
-pub fn front(bytes: &[u8], n: usize) -> &[u8] {
+pub fn front(bytes: &[u8], n: usize) -> &[u8]
+    ensures { λ r. ⌜ now r ≡ take n (now (bytes .entry)) ⌝ }
+{
     if n <= bytes.len() {
         return &bytes[..n];
     }
@@ -11,7 +16,9 @@ pub fn front(bytes: &[u8], n: usize) -> &[u8] {
 }
 
 // One more than the spaces: an empty word is counted, and is no command, number or bytes.
-pub fn count(line: &[u8]) -> usize {
+pub fn count(line: &[u8]) -> usize
+    ensures { λ r. ⌜ r ≡ length (words (now (line .entry))) ⌝ }
+{
     let mut n: usize = 1;
     let mut i = 0;
     while i < line.len() {
@@ -25,7 +32,7 @@ pub fn count(line: &[u8]) -> usize {
 
 // Where the word begins that stands after so many spaces.
 fn start(line: &[u8], spaces: usize) -> usize
-    ensures { λ r. ⌜ r ≤ length (now (line .entry)) ⌝ }
+    ensures { λ r. ⌜ (r ≤ length (now (line .entry))) × (wordAt (drop r (now (line .entry))) 0 ≡ wordAt (now (line .entry)) spaces) ⌝ }
 {
     let mut left = spaces;
     let mut i = 0;
@@ -44,7 +51,7 @@ fn start(line: &[u8], spaces: usize) -> usize
 // Where the word ends that begins there.
 fn end(line: &[u8], from: usize) -> usize
     requires { ⌜ from ≤ length (now line) ⌝ }
-    ensures { λ r. ⌜ (from ≤ r) × (r ≤ length (now (line .entry))) ⌝ }
+    ensures { λ r. ⌜ (from ≤ r) × (r ≤ length (now (line .entry))) × (take (r - from) (drop from (now (line .entry))) ≡ wordAt (drop from (now (line .entry))) 0) ⌝ }
 {
     let mut i = from;
     while i < line.len() {
@@ -56,7 +63,9 @@ fn end(line: &[u8], from: usize) -> usize
     i
 }
 
-pub fn word(line: &[u8], k: usize) -> &[u8] {
+pub fn word(line: &[u8], k: usize) -> &[u8]
+    ensures { λ r. ⌜ now r ≡ wordAt (now (line .entry)) k ⌝ }
+{
     let from = start(line, k);
     let to = end(line, from);
     &line[from..to]
@@ -68,7 +77,9 @@ pub enum Number {
 }
 
 // One digit more, unless the number is then over 64 bits.
-fn more(n: u64, b: u8) -> Number {
+fn more(n: u64, b: u8) -> Number
+    ensures { λ r. ⌜ r ≡ moreOf n b ⌝ }
+{
     if b < b'0' {
         return Number::Bad;
     }
@@ -83,7 +94,9 @@ fn more(n: u64, b: u8) -> Number {
 }
 
 // Zeros may stand in front: what counts is the number.
-pub fn number_of(word: &[u8]) -> Number {
+pub fn number_of(word: &[u8]) -> Number
+    ensures { λ r. ⌜ r ≡ numberIn (now (word .entry)) ⌝ }
+{
     if word.len() < 1 {
         return Number::Bad;
     }
