@@ -3,6 +3,7 @@ ghost use mathlib.Core.Path.{_≡_};
 ghost use Prim.Native.Nat.{_≤_, _/_, _-_};
 ghost use lib.ListN.{length, take, drop, getD};
 ghost use Rattle.text.specs.Decimal.{moreOf, numberIn};
+ghost use Rattle.text.specs.Numbers.{numbersIn, noNumbers};
 ghost use Rattle.text.specs.Words.{words, wordAt};
 
 // The first bytes of a slice, as far as they go.
@@ -118,12 +119,16 @@ pub struct Numbers {
     pub ok: bool,
 }
 
-fn no_numbers() -> Numbers {
+fn no_numbers() -> Numbers
+    ensures { λ r. ⌜ r ≡ noNumbers ⌝ }
+{
     let n = [0u64; 9];
     Numbers { n, ok: false }
 }
 
-pub fn numbers_of(line: &[u8], many: usize) -> Numbers {
+pub fn numbers_of(line: &[u8], many: usize) -> Numbers
+    ensures { λ r. ⌜ r ≡ numbersIn (now (line .entry)) many ⌝ }
+{
     let mut n = [0u64; 9];
     if 9 < many {
         return no_numbers();
