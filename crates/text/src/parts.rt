@@ -1,8 +1,12 @@
 // The words of a line, each parted from the next by one space, and the numbers and bytes that they are.
 ghost use mathlib.Core.Path.{_≡_};
+ghost use mathlib.Core.Bool.{true};
+ghost use mathlib.Core.List.{_++_};
+ghost use Rattle.lists.specs.Every.{every};
 ghost use Prim.Native.Nat.{_≤_, _/_, _-_};
 ghost use lib.ListN.{length, take, drop, getD};
 ghost use Rattle.text.specs.Decimal.{moreOf, numberIn};
+ghost use Rattle.text.specs.Hex.{nibbleOf, isHex, pairOf, bytesIn, bytesOf, roomAfter};
 ghost use Rattle.text.specs.Numbers.{numbersIn, noNumbers};
 ghost use Rattle.text.specs.Words.{words, wordAt};
 
@@ -148,7 +152,9 @@ pub fn numbers_of(line: &[u8], many: usize) -> Numbers
 }
 
 // 16 for a byte that is no hex digit.
-fn nibble(b: u8) -> u8 {
+fn nibble(b: u8) -> u8
+    ensures { λ r. ⌜ r ≡ nibbleOf b ⌝ }
+{
     match b {
         b'0'..=b'9' => b - b'0',
         b'A'..=b'F' => b - b'A' + 10,
@@ -157,7 +163,9 @@ fn nibble(b: u8) -> u8 {
     }
 }
 
-fn all_hex(word: &[u8]) -> bool {
+fn all_hex(word: &[u8]) -> bool
+    ensures { λ r. ⌜ r ≡ every (length (now (word .entry))) (λ p. isHex (getD (now (word .entry)) p 0)) ⌝ }
+{
     let mut i = 0;
     while i < word.len() {
         if 15 < nibble(word[i]) {
@@ -168,13 +176,18 @@ fn all_hex(word: &[u8]) -> bool {
     true
 }
 
-// Asked only of two hex digits.
-fn pair(high: u8, low: u8) -> u8 {
-    16 * (nibble(high) % 16) + nibble(low) % 16
+fn pair(high: u8, low: u8) -> u8
+    requires { ⌜ isHex high ≡ true ⌝ }
+    requires { ⌜ isHex low ≡ true ⌝ }
+    ensures { λ r. ⌜ r ≡ pairOf high low ⌝ }
+{
+    16 * nibble(high) + nibble(low)
 }
 
 fn fill(word: &[u8], room: &mut [u8])
     requires { ⌜ length (now word) / 2 ≤ length (now room) ⌝ }
+    requires { ⌜ every (length (now word)) (λ p. isHex (getD (now word) p 0)) ≡ true ⌝ }
+    ensures { λ _. ⌜ now (room .exit) ≡ bytesIn (now (word .entry)) ++ drop (length (now (word .entry)) / 2) (now (room .entry)) ⌝ }
 {
     let mut i = 0;
     while i < word.len() / 2 {
@@ -190,12 +203,15 @@ pub enum Bytes {
 }
 
 // Pairs of hex digits in either case, or `-` for no bytes. A bad word leaves the room as it is.
-pub fn bytes_of(word: &[u8], room: &mut [u8]) -> Bytes {
+pub fn bytes_of(word: &[u8], room: &mut [u8]) -> Bytes
+    ensures { λ r. ⌜ (r ≡ bytesOf (now (word .entry)) (now (room .entry))) × (now (room .exit) ≡ roomAfter (now (word .entry)) (now (room .entry))) ⌝ }
+{
     let n = word.len() / 2;
     if word.len() == 1 {
         if word[0] == b'-' {
             return Bytes::Are(0);
         }
+        return Bytes::Bad;
     }
     if word.len() < 1 {
         return Bytes::Bad;
