@@ -1,16 +1,16 @@
 -- docs/CONSOLE.md: "A number is decimal, at most 18,446,744,073,709,551,615."
 -- Assumes nothing.
-use Prim.Native.Nat.{ℕ, zero, suc, _+_, _-_, _*_, _^_, _≤_, _<_}
+use Prim.Native.Nat.{ℕ, zero, suc, _+_, _-_, _*_, _/_, _%_, _^_, _≤_, _<_}
 use mathlib.Core.Path.{_≡_, refl, sym, _∙_, ap}
 use mathlib.Core.Bool.{Bool, true, false, cond, _&&_}
-use mathlib.Core.List.{List, [], _∷_}
+use mathlib.Core.List.{List, [], _∷_, _++_}
 use native.Mathlib.Nat.{mul-assoc, add-mul, pow-suc, le-mul-of-pos-right, zero-mul, zero-add, sub-self, mul-one, add-zero}
 use native.Mathlib.Numerals.{add-one}
 use native.Mathlib.Omega.{arith}
 use lib.Dec.{leb, ltb}
 use lib.ListN.{length, getD, drop, length-drop}
 use lib.Seq.{drop-cons, drop-length}
-use borrow.Author.Tests.{lt-ltb, lt-leb, le-leb, leb-false, leb-true}
+use borrow.Author.Tests.{lt-ltb, le-ltb, lt-leb, le-leb, leb-false, leb-true}
 use Rattle.lists.specs.Every.{every, every-not}
 use Rattle.lists.specs.Tests.{passed, and-left, and-right}
 use Rattle.text.specs.declared.parts.Number.{Number}
@@ -124,3 +124,37 @@ read-all w i n e h l d r =
     let v : value w ≡ n =
     r ∙ ap (λ (j : ℕ). n * 10 ^ (length w - j) + value (drop j w)) e ∙ simp (drop-length, sub-self, mul-one, add-zero) in
     simp (v, lt-ltb 0 (length w) h, ap (λ (j : ℕ). every j (λ p. isDigit (getD w p 0))) (sym e) ∙ d, le-leb n most l)
+
+-- the digits of a number, in at most k places
+unfoldable pub spelt : ℕ → ℕ → List ℕ
+spelt zero n = []
+spelt (suc k) n = cond (ltb n 10) ((48 + n) ∷ []) (spelt k (n / 10) ++ ((48 + n % 10) ∷ []))
+
+-- the digits of a number: 20 places are enough for 64 bits
+unfoldable pub decimal : ℕ → List ℕ
+decimal n = spelt 20 n
+
+-- a place that is not needed changes nothing
+spelt-more : (k n : ℕ) → n < 10 ^ suc k → spelt (suc (suc k)) n ≡ spelt (suc k) n
+unfolding spelt
+spelt-more zero n h = simp (lt-ltb n 10 (omega arith))
+spelt-more (suc k) n h =
+    let i = spelt-more k (n / 10) (tenth n (10 ^ suc k) (rw pow-suc at h)) in
+    ap (λ (l : List ℕ). cond (ltb n 10) ((48 + n) ∷ []) (l ++ ((48 + n % 10) ∷ []))) i
+  where
+    tenth : (x y : ℕ) → x < y * 10 → x / 10 < y
+    tenth x y g = omega arith
+
+spelt-on : (k n : ℕ) → 10 ≤ n → spelt (suc k) n ≡ spelt k (n / 10) ++ ((48 + n % 10) ∷ [])
+unfolding spelt
+spelt-on k n h = simp (le-ltb n 10 h)
+
+pub decimal-one : (n : ℕ) → n < 10 → decimal n ≡ (48 + n) ∷ []
+unfolding decimal spelt
+decimal-one n h = simp (lt-ltb n 10 h)
+
+pub decimal-more : (n : ℕ) → 10 ≤ n → n ≤ most → decimal n ≡ decimal (n / 10) ++ ((48 + n % 10) ∷ [])
+unfolding decimal
+decimal-more n h l =
+    let i : spelt 20 (n / 10) ≡ spelt 19 (n / 10) = spelt-more 18 (n / 10) (omega arith) in
+    spelt-on 19 n h ∙ ap (λ (r : List ℕ). r ++ ((48 + n % 10) ∷ [])) (sym i)

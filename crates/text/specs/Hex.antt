@@ -3,7 +3,7 @@
 use Prim.Native.Nat.{ℕ, _+_, _-_, _*_, _/_, _%_, _≤_, _<_}
 use mathlib.Core.Path.{_≡_, refl, sym, _∙_, ap}
 use mathlib.Core.Bool.{Bool, true, false, cond, _&&_, _||_}
-use mathlib.Core.List.{List, _++_}
+use mathlib.Core.List.{List, [], _∷_, _++_}
 use mathlib.Core.Logic.{⊎-elim}
 use native.Mathlib.Omega.{arith}
 use lib.Dec.{leb, ltb, eqb}
@@ -31,6 +31,15 @@ isHex b = ltb (nibbleOf b) 16
 abbrev pub pairOf : ℕ → ℕ → ℕ
 pairOf high low = 16 * nibbleOf high + nibbleOf low
 
+-- "Answers are in lower case.": the digit that says a number below 16
+unfoldable pub glyphOf : ℕ → ℕ
+glyphOf n = cond (ltb n 10) (48 + n) (87 + n)
+
+-- bytes as pairs of hex digits
+unfoldable pub hexOf : List ℕ → List ℕ
+hexOf [] = []
+hexOf (b ∷ bytes) = glyphOf (b / 16) ∷ glyphOf (b % 16) ∷ hexOf bytes
+
 -- the bytes that the pairs of a word are
 unfoldable pub bytesIn : List ℕ → List ℕ
 bytesIn w = tabulate (length w / 2) (λ k. pairOf (getD w (2 * k) 0) (getD w (2 * k + 1) 0))
@@ -55,6 +64,12 @@ roomAfter w room = cond (takes w room) (bytesIn w ++ drop (length w / 2) room) r
 and-no : (a b : Bool) → b ≡ false → (a && b) ≡ false
 and-no true b e = e
 and-no false b e = refl
+
+-- one byte more
+pub hex-more : (bytes : List ℕ) (b : ℕ) → hexOf (bytes ++ (b ∷ [])) ≡ hexOf bytes ++ (glyphOf (b / 16) ∷ glyphOf (b % 16) ∷ [])
+unfolding hexOf
+hex-more [] b = refl
+hex-more (a ∷ bytes) b = ap (λ (l : List ℕ). glyphOf (a / 16) ∷ glyphOf (a % 16) ∷ l) (hex-more bytes b)
 
 pub hex-small : (b : ℕ) → isHex b ≡ true → nibbleOf b < 16
 unfolding isHex

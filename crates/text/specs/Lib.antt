@@ -1,4 +1,5 @@
 pub mod Decimal
 pub mod Hex
 pub mod Numbers
+pub mod Room
 pub mod Words

@@ -1,6 +1,14 @@
 // Text written into a room from a place on, as far as it fits. Each function says where the next byte goes.
+ghost use mathlib.Core.Path.{_≡_};
+ghost use mathlib.Core.List.{[], _∷_, _++_};
+ghost use Prim.Native.Nat.{_<_};
+ghost use Rattle.text.specs.Decimal.{decimal};
+ghost use Rattle.text.specs.Hex.{glyphOf, hexOf};
+ghost use Rattle.text.specs.Room.{placed, past};
 
-fn put(out: &mut [u8], at: usize, b: u8) -> usize {
+fn put(out: &mut [u8], at: usize, b: u8) -> usize
+    ensures { λ r. ⌜ (r ≡ past (now (out .entry)) at (b ∷ [])) × (now (out .exit) ≡ placed (now (out .entry)) at (b ∷ [])) ⌝ }
+{
     if at < out.len() {
         out[at] = b;
         return at + 1;
@@ -8,7 +16,9 @@ fn put(out: &mut [u8], at: usize, b: u8) -> usize {
     at
 }
 
-pub fn text(out: &mut [u8], at: usize, bytes: &[u8]) -> usize {
+pub fn text(out: &mut [u8], at: usize, bytes: &[u8]) -> usize
+    ensures { λ r. ⌜ (r ≡ past (now (out .entry)) at (now (bytes .entry))) × (now (out .exit) ≡ placed (now (out .entry)) at (now (bytes .entry))) ⌝ }
+{
     let mut to = at;
     let mut i = 0;
     while i < bytes.len() {
@@ -18,7 +28,9 @@ pub fn text(out: &mut [u8], at: usize, bytes: &[u8]) -> usize {
     to
 }
 
-fn digits(out: &mut [u8], at: usize, n: u64) -> usize {
+fn digits(out: &mut [u8], at: usize, n: u64) -> usize
+    ensures { λ r. ⌜ (r ≡ past (now (out .entry)) at (decimal n)) × (now (out .exit) ≡ placed (now (out .entry)) at (decimal n)) ⌝ }
+{
     if n < 10 {
         return put(out, at, b'0' + n as u8);
     }
@@ -27,35 +39,45 @@ fn digits(out: &mut [u8], at: usize, n: u64) -> usize {
 }
 
 // A space and the number.
-pub fn number(out: &mut [u8], at: usize, n: u64) -> usize {
+pub fn number(out: &mut [u8], at: usize, n: u64) -> usize
+    ensures { λ r. ⌜ (r ≡ past (now (out .entry)) at (32 ∷ decimal n)) × (now (out .exit) ≡ placed (now (out .entry)) at (32 ∷ decimal n)) ⌝ }
+{
     let to = put(out, at, b' ');
     digits(out, to, n)
 }
 
-fn glyph(n: u8) -> u8 {
-    if n % 16 < 10 {
-        b'0' + n % 16
-    } else {
-        b'a' + (n % 16 - 10)
+fn glyph(n: u8) -> u8
+    requires { ⌜ n < 16 ⌝ }
+    ensures { λ r. ⌜ r ≡ glyphOf n ⌝ }
+{
+    if n < 10 {
+        return b'0' + n;
     }
+    b'a' + (n - 10)
 }
 
-pub fn hex(out: &mut [u8], at: usize, bytes: &[u8]) -> usize {
+pub fn hex(out: &mut [u8], at: usize, bytes: &[u8]) -> usize
+    ensures { λ r. ⌜ (r ≡ past (now (out .entry)) at (hexOf (now (bytes .entry)))) × (now (out .exit) ≡ placed (now (out .entry)) at (hexOf (now (bytes .entry)))) ⌝ }
+{
     let mut to = at;
     let mut i = 0;
     while i < bytes.len() {
         to = put(out, to, glyph(bytes[i] / 16));
-        to = put(out, to, glyph(bytes[i]));
+        to = put(out, to, glyph(bytes[i] % 16));
         i += 1;
     }
     to
 }
 
-pub fn end(out: &mut [u8], at: usize) -> usize {
+pub fn end(out: &mut [u8], at: usize) -> usize
+    ensures { λ r. ⌜ (r ≡ past (now (out .entry)) at (10 ∷ [])) × (now (out .exit) ≡ placed (now (out .entry)) at (10 ∷ [])) ⌝ }
+{
     put(out, at, b'\n')
 }
 
-pub fn line(out: &mut [u8], at: usize, bytes: &[u8]) -> usize {
+pub fn line(out: &mut [u8], at: usize, bytes: &[u8]) -> usize
+    ensures { λ r. ⌜ (r ≡ past (now (out .entry)) at (now (bytes .entry) ++ (10 ∷ []))) × (now (out .exit) ≡ placed (now (out .entry)) at (now (bytes .entry) ++ (10 ∷ []))) ⌝ }
+{
     let to = text(out, at, bytes);
     end(out, to)
 }

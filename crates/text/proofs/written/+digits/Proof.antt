@@ -1,7 +1,11 @@
--- `digits` is safe and ends: the number that is left falls.
+-- `digits` puts the digits of the number: those of its tenth, and the last one. The number falls.
 -- Assumes nothing.
 use borrow.Author.Needs.{needs}
-use Prim.Native.Nat.{ℕ, _<_}
+use mathlib.Core.List.{[], _∷_}
+use native.Mathlib.Omega.{arith}
+use Rattle.text.specs.Decimal.{decimal, decimal-one, decimal-more}
+use Rattle.text.specs.Room.{put-more}
+use Prim.Native.Nat.{ℕ, _<_, _+_, _/_, _%_}
 use borrow.Fn.Kinds.{In}
 use borrow.Fn.PlainCycle.{Measures, is, falls, and}
 use Rattle.text.proofs.written.digits.Reads as digits
@@ -63,7 +67,7 @@ digits-returns : (t : ℕ) → digits-lts.Need-returns (
   digits-below t,
   digits.Post,
 ) (digits-at t) digits.Post
-digits-returns t c = search needs
+digits-returns t c = rw (decimal-one (c .before .before .before .before .before .before .args .n) (c .before .before .before .before .if1 .taken)) (c .before .before .put .ensures)
 
 -- src/written.rt:25:9
 digits-digits-requires : (t : ℕ) → digits-lts.Need-digits-requires (
@@ -117,7 +121,10 @@ digits-returns-2 : (t : ℕ) → digits-lts.Need-returns-2 (
   digits-below t,
   digits.Post,
 ) (digits-at t) digits.Post
-digits-returns-2 t c = search needs
+digits-returns-2 t c =
+    let n = c .before .before .before .before .before .before .before .before .before .before .args .n in
+    let e = decimal-more n (c .before .before .before .before .before .before .before .before .if1 .left) (omega arith) in
+    rw e (put-more _ _ (decimal (n / 10)) ((48 + n % 10) ∷ []) _ _ _ _ (c .before .before .before .before .before .before .digits .ensures) (c .before .before .put2 .ensures))
 
 pub +digits-spec : {M : Type 1} → statement M
 +digits-spec = close μ-digits λ t. digits-lts.spec (
