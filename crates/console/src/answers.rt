@@ -1,69 +1,17 @@
-// Answers, written into the room for output from a place on. Each function says where the next byte goes.
+// The answers, written into the room for output from a place on. Each function says where the next byte goes.
 use reading::class::Class;
 use reading::signature::Signature;
 use table::form::Answer;
 use table::form::Closed;
 use table::form::Status;
+use text::written::end;
+use text::written::line;
+use text::written::number;
+use text::written::text;
 use tlv::fields::Fields;
 use tlv::fields::Form;
 use tlv::read::Taken;
 use tlv::search::Searched;
-
-fn put(out: &mut [u8], at: usize, b: u8) -> usize {
-    if at < out.len() {
-        out[at] = b;
-        return at + 1;
-    }
-    at
-}
-
-pub fn text(out: &mut [u8], at: usize, bytes: &[u8]) -> usize {
-    let mut to = at;
-    let mut i = 0;
-    while i < bytes.len() {
-        to = put(out, to, bytes[i]);
-        i += 1;
-    }
-    to
-}
-
-// A space and the number.
-pub fn number(out: &mut [u8], at: usize, n: u64) -> usize {
-    let mut digits = [0u8; 20];
-    let k = io::decimal(n, &mut digits);
-    let to = put(out, at, b' ');
-    text(out, to, &digits[..k])
-}
-
-fn glyph(n: u8) -> u8 {
-    if n < 10 {
-        return b'0' + n;
-    }
-    if n < 16 {
-        return b'a' + (n - 10);
-    }
-    b'?'
-}
-
-pub fn hex(out: &mut [u8], at: usize, bytes: &[u8]) -> usize {
-    let mut to = at;
-    let mut i = 0;
-    while i < bytes.len() {
-        to = put(out, to, glyph(bytes[i] / 16));
-        to = put(out, to, glyph(bytes[i] % 16));
-        i += 1;
-    }
-    to
-}
-
-pub fn end(out: &mut [u8], at: usize) -> usize {
-    put(out, at, b'\n')
-}
-
-pub fn line(out: &mut [u8], at: usize, bytes: &[u8]) -> usize {
-    let to = text(out, at, bytes);
-    end(out, to)
-}
 
 pub fn bad_line(out: &mut [u8], at: usize) -> usize {
     line(out, at, b"bad line")

@@ -1,18 +1,20 @@
 // The commands: a line's words to a call of the core. Whatever is not well formed is a bad line, and nothing changes.
 use crate::answers::bad_line;
-use crate::parts::Bytes;
-use crate::parts::Number;
-use crate::parts::Numbers;
-use crate::parts::bytes_of;
-use crate::parts::count;
-use crate::parts::front;
-use crate::parts::number_of;
-use crate::parts::numbers_of;
-use crate::parts::word;
 use check::same;
 use table::form::Answer;
 use table::form::Table;
 use table::form::Told;
+use text::parts::Bytes;
+use text::parts::Number;
+use text::parts::Numbers;
+use text::parts::bytes_of;
+use text::parts::count;
+use text::parts::front;
+use text::parts::number_of;
+use text::parts::numbers_of;
+use text::parts::word;
+use text::written::end;
+use text::written::hex;
 use tlv::fields::Added;
 use tlv::fields::Fields;
 use tlv::fields::Form;
@@ -105,13 +107,13 @@ fn loaded(image: &[u8], table: Table, out: &mut [u8], at: usize) -> Held {
     let loaded = image::load::load(image);
     if loaded.ok {
         let after = loaded.table;
-        let to = crate::answers::line(out, at, b"ok");
+        let to = text::written::line(out, at, b"ok");
         return Held {
             table: after,
             at: to,
         };
     }
-    let to = crate::answers::line(out, at, b"bad image");
+    let to = text::written::line(out, at, b"bad image");
     Held { table, at: to }
 }
 
@@ -128,8 +130,8 @@ fn dump(line: &[u8], table: Table, out: &mut [u8], at: usize) -> usize {
     }
     let mut room = [0u8; 1_014];
     image::store::store(table, &mut room);
-    let to = crate::answers::hex(out, at, &room);
-    crate::answers::end(out, to)
+    let to = hex(out, at, &room);
+    end(out, to)
 }
 
 fn ticked(block: &[u8], figure: u64, table: Table, out: &mut [u8], at: usize) -> Held {
@@ -208,9 +210,9 @@ fn short(n: u64) -> u16 {
 fn wrote(fields: Fields, room: &mut [u8], out: &mut [u8], at: usize) -> usize {
     match tlv::write::write(fields, room) {
         Written::Is(_) => {
-            let to = crate::answers::text(out, at, b"wrote ");
-            let past = crate::answers::hex(out, to, room);
-            crate::answers::end(out, past)
+            let to = text::written::text(out, at, b"wrote ");
+            let past = hex(out, to, room);
+            end(out, past)
         }
         Written::Refused(k) => crate::answers::refused(out, at, k),
     }

@@ -2,11 +2,11 @@
 mod answers;
 mod commands;
 mod lines;
-mod parts;
 
 use commands::Held;
 use lines::Source;
 use table::form::Table;
+use text::parts::front;
 ghost use mathlib.Core.Path.{_≡_};
 ghost use lib.ListN.{length};
 
@@ -28,11 +28,11 @@ fn turn(
     if LONGEST < length {
         return commands::bad(table, out, at);
     }
-    commands::answer(parts::front(line, length), data, table, out, at)
+    commands::answer(front(line, length), data, table, out, at)
 }
 
 fn written(out: &[u8], at: usize) {
-    io::write_all(1, parts::front(out, at));
+    io::write_all(1, front(out, at));
 }
 
 // The answers that wait are written before the program may wait for input, and before the room could be full.
