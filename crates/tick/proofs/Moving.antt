@@ -125,19 +125,19 @@ module _ (t : Table) (block : List ℕ) where
     asked-all = filled-over false asksHere false 48 (t .count) asked (M .asking)
 
     module _ (supply : Power) where
-      abbrev now : Table
-      now = record { ports = after .ports; count = after .count; supply = supply }
+      abbrev present : Table
+      present = record { ports = after .ports; count = after .count; supply = supply }
 
       -- the tally is that of the table as it is now
-      pub tally-now : tally ≡ tallyOf now
+      pub tally-now : tally ≡ tallyOf present
       unfolding tallyOf portAt
       tally-now =
           M .counted .is
-          ∙ tally-cong (t .count) portHere (portAt now) (λ p l. sym (M .ports .done p l))
-          ∙ ap (λ (n : ℕ). tallyBelow n (portAt now)) (sym (M .count))
+          ∙ tally-cong (t .count) portHere (portAt present) (λ p l. sym (M .ports .done p l))
+          ∙ ap (λ (n : ℕ). tallyBelow n (portAt present)) (sym (M .count))
 
       -- where no port asks and what is closed fits, this is the tick
-      pub quiet-tick : quiet ≡ true → fits (tally .drawn) supply ≡ true → now ≡ tableAfter t block supply
+      pub quiet-tick : quiet ≡ true → fits (tally .drawn) supply ≡ true → present ≡ tableAfter t block supply
       unfolding fits tallyBelow
       quiet-tick q f =
           let drawn : tally .drawn .0 ≡ total (t .count) (λ p. draws (portHere p)) = ap (λ (y : Tally). y .drawn .0) (M .counted .is) in

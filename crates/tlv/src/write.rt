@@ -35,13 +35,13 @@ fn bad_codes(form: Form) -> bool
     }
 }
 
-fn put_head(fields: Fields, length: u8, room: &mut [u8])
-    requires { ⌜ 9 ≤ lib.ListN.length (now room) ⌝ }
-    ensures { λ _. ⌜ now (room .exit) ≡ sets (now (room .entry)) 0 (headBytes fields length) ⌝ }
+fn put_head(fields: Fields, body: u8, room: &mut [u8])
+    requires { ⌜ 9 ≤ length (now room) ⌝ }
+    ensures { λ _. ⌜ now (room .exit) ≡ sets (now (room .entry)) 0 (headBytes fields body) ⌝ }
 {
     let fixed = b"\x00\x12\x0f\x02";
     room[0] = 254;
-    room[1] = length;
+    room[1] = body;
     room[2] = fixed[0];
     room[3] = fixed[1];
     room[4] = fixed[2];
