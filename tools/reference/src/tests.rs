@@ -252,9 +252,9 @@ fn images() {
 /// state, exit, latch, refusal, order of checks and corner.
 #[test]
 fn a_script_meets_everything() {
-    let script = scripts::made(1, 20_000, scripts::Kind::Mixed);
-    assert_eq!(script, scripts::made(1, 20_000, scripts::Kind::Mixed));
-    assert_eq!(script.iter().filter(|&&byte| byte == b'\n').count(), 20_000);
+    let script = scripts::made(1, 24_000, scripts::Kind::Mixed);
+    assert_eq!(script, scripts::made(1, 24_000, scripts::Kind::Mixed));
+    assert_eq!(script.iter().filter(|&&byte| byte == b'\n').count(), 24_000);
     let counts = count::counted(&script);
     for row in counts.lines() {
         assert!(!row.ends_with("| 0 |") && !row.contains("NOT LISTED"), "{row}");

@@ -1,0 +1,189 @@
+//! One thing alone: a flag, a bit of a word, a count of 49, bytes left of an
+//! earlier line. Chance seldom makes these, and a wrong comparison often shows in
+//! one of them only, so they come in turn.
+
+use super::readings::pressing;
+use super::tables::{image_line, near_port};
+use super::Maker;
+use crate::image::{written, IMAGE_BYTES, PORT_BYTES};
+use crate::lines::hex_text;
+use crate::port::{control_reserved, Port, State, STATES};
+use crate::random::Random;
+use crate::reading::{Sample, RESERVED_FLAGS, SAMPLE_BYTES};
+use crate::table::{Table, PLACES};
+
+/// Half of the turns go to the flag words, of which there are 640.
+pub fn alone(maker: &mut Maker) {
+    match maker.turn(9) % 10 {
+        0 => each_flag(maker),
+        1 => each_bit_of_control(maker),
+        2 => each_request(maker),
+        3 => {
+            for _ in 0..2 {
+                one_place_too_many(maker);
+            }
+        }
+        4 => left_over(maker),
+        _ => {
+            for _ in 0..3 {
+                flag_words(maker);
+            }
+        }
+    }
+}
+
+/// A block in which one port has these flags, and every other none that is
+/// reserved.
+fn block_with(maker: &mut Maker, port: u64, flags: u16) -> String {
+    let mut block = Vec::new();
+    for p in 0..maker.ports() {
+        let sample = pressing(&mut maker.r);
+        let sample = if p == port { Sample { flags, ..sample } } else { sample };
+        block.extend(sample.bytes());
+    }
+    maker.hex(&block)
+}
+
+/// Each of the 16 flags as the only one of a port, and of 15:6 as the only fault
+/// of a tick: in port 0, in the last one and in one between.
+fn each_flag(maker: &mut Maker) {
+    maker.say("cold 3");
+    for port in 0..3 {
+        let word = 0x5 + 0x4 * maker.r.below(2) + 0x10 * maker.r.below(4);
+        maker.say(&format!("control {port} {word}"));
+    }
+    for bit in 0..16 {
+        for port in 0..3 {
+            let block = block_with(maker, port, 1 << bit);
+            maker.say(&format!("tick 60000 {block}"));
+        }
+    }
+    // The last of 48: no place of a full table is forgotten.
+    maker.say("cold 48");
+    let bit = maker.r.between(6, 15);
+    let port = maker.r.pick(&[0, 47]);
+    let block = block_with(maker, port, 1 << bit);
+    maker.say(&format!("tick 60000 {block}"));
+}
+
+/// Every word of six bits for a port in DISABLED, which may take each; then every
+/// higher bit alone beside a word that would do.
+fn each_bit_of_control(maker: &mut Maker) {
+    maker.say("cold 2");
+    let port = maker.r.below(2);
+    for word in 0..64 {
+        maker.say(&format!("control {port} {word}"));
+    }
+    let fine = maker.r.pick(&[5, 0x26]);
+    for bit in 6..64 {
+        maker.say(&format!("control {port} {}", fine + (1u64 << bit)));
+    }
+}
+
+/// On both sides of each step of a request, upwards or downwards, for every class
+/// and from every demand. The supply has room for all, or not for one step more.
+fn each_request(maker: &mut Maker) {
+    let demands = [0, 40, 70, 154, 300];
+    let mut table = Table::cold(25).unwrap_or_else(|_| Table::zero());
+    for place in 0..25 {
+        let port = calm_port(&mut maker.r, State::PowerOn);
+        let (class, demand) = (place as u8 / 5, demands[place % 5]);
+        table.ports[place] = Port { class, demand, ..port };
+    }
+    let drawn = table.closed_demands() as u16;
+    table.supply = maker.r.pick(&[60_000, drawn + 29, drawn + 83, drawn + 145]);
+    image_line(maker, &written(&table));
+    let mut values = [1, 38, 39, 64, 65, 129, 130, 255];
+    for place in 0..25 {
+        if maker.r.chance(50) {
+            values.reverse();
+        }
+        for value in values {
+            maker.say(&format!("request {place} {value}"));
+        }
+    }
+    maker.say("dump");
+}
+
+/// A port in the state, far from the limits of its counters, all of which stand
+/// at something: a counter that runs or stops wrongly is then seen.
+fn calm_port(r: &mut Random, state: State) -> Port {
+    let port = near_port(r, state);
+    let enable = if matches!(state, State::TestMode | State::TestError) { 2 } else { 1 };
+    let control = port.control & !3 | enable;
+    Port { control, counters: [0; 7].map(|_: u16| r.between(1, 50) as u16), ..port }
+}
+
+/// A full table in which each place has the next pair of a state and a word of
+/// the six flags, a tick, and what it left.
+fn flag_words(maker: &mut Maker) {
+    let mut table = Table::zero();
+    table.count = PLACES as u16;
+    table.supply = maker.r.pick(&[0, 300, 60_000]);
+    let mut block = Vec::new();
+    for place in &mut table.ports {
+        let turn = maker.turn(10);
+        let (state, flags) = (STATES[turn as usize % 10], (turn / 10 % 64) as u16);
+        let r = &mut maker.r;
+        *place = if r.chance(85) { calm_port(r, state) } else { near_port(r, state) };
+        block.extend(Sample { flags, ..pressing(r) }.bytes());
+    }
+    image_line(maker, &written(&table));
+    // All fits: what is shed would not show its counters' rule.
+    let block = maker.hex(&block);
+    maker.say(&format!("tick 60000 {block}"));
+    maker.say("dump");
+}
+
+/// A count of 49, and everything else well-made. Whoever takes it for one finds
+/// the count and the supply where the next port would stand: so the supply is a
+/// control word that a port may have.
+fn one_place_too_many(maker: &mut Maker) {
+    let words: Vec<u16> = (0..64).filter(|&word| !control_reserved(u64::from(word))).collect();
+    let mut table = Table::zero();
+    table.count = 49;
+    table.supply = words[maker.turn(11) as usize % words.len()];
+    for place in &mut table.ports {
+        let state = maker.r.pick(&STATES);
+        *place = calm_port(&mut maker.r, state);
+    }
+    image_line(maker, &written(&table));
+    for ports in [48, 49] {
+        let block = "00".repeat(ports * SAMPLE_BYTES);
+        maker.say(&format!("tick 60000 {block}"));
+    }
+    let port = maker.r.below(48);
+    for line in ["status 48", "control 48 5", "request 48 1"] {
+        maker.say(line);
+    }
+    for call in ["status {}", "control {} 4", "request {} 1"] {
+        maker.say(&call.replace("{}", &port.to_string()));
+    }
+}
+
+/// A long line first, whose bytes would go on where a shorter one ends: with a
+/// state over 9, a latch over 5 or a reserved flag. The shorter line is none the
+/// worse for it.
+fn left_over(maker: &mut Maker) {
+    let state = maker.r.pick(&STATES);
+    let mut table = Table::zero();
+    table.count = maker.r.between(1, 3) as u16;
+    for place in &mut table.ports {
+        *place = calm_port(&mut maker.r, state);
+    }
+    let image = written(&table);
+    let mut long = image.clone();
+    long.resize(IMAGE_BYTES + PORT_BYTES, 0);
+    let (at, byte) = maker.r.pick(&[(0, 10), (0, 255), (6, 64), (6, 255)]);
+    long[IMAGE_BYTES + at] = byte;
+    image_line(maker, &long);
+    image_line(maker, &image);
+    let ports = usize::from(table.count);
+    let mut block = vec![0; ports * SAMPLE_BYTES];
+    let short = hex_text(&block);
+    block.extend([0; SAMPLE_BYTES - 2]);
+    block.extend(RESERVED_FLAGS.to_be_bytes());
+    maker.say(&format!("tick 60000 {}", hex_text(&block)));
+    maker.say(&format!("tick 60000 {short}"));
+    maker.say("dump");
+}
