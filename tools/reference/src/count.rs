@@ -169,11 +169,11 @@ impl Counts {
             self.order(call, &reasons(&before, line));
             self.alone.line(&before, line, &answer);
         }
-        if let (Some(Line::Tick(_, block)), Answer::Ticked(ticked)) = (&parsed, &answer) {
+        if let (Some(Line::Tick(figure, block)), Answer::Ticked(ticked)) = (&parsed, &answer) {
             for (p, exit) in ticked.exits.iter().enumerate() {
                 self.exit(exit, &before.ports[p], &Sample::of_port(block, p));
             }
-            for name in sharing_corners(&before, block, &ticked.exits) {
+            for name in sharing_corners(&before, *figure, block, &ticked.exits) {
                 self.corner(name);
             }
         }

@@ -264,4 +264,11 @@ fn a_script_meets_everything() {
         let met = row.trim_end_matches(" |").rsplit(' ').next().unwrap_or("0");
         assert!(met.parse::<u64>().unwrap() >= 100, "{row}");
     }
+    let one_by_one = counts.lines().skip_while(|row| !row.starts_with("| One by one"));
+    let rows: Vec<&str> = one_by_one.skip(2).take_while(|row| !row.is_empty()).collect();
+    assert_eq!(rows.len(), 13);
+    for row in rows {
+        let cells: Vec<&str> = row.split(" | ").collect();
+        assert_eq!(cells[1], cells[2].trim_end_matches(" |"), "{row}");
+    }
 }

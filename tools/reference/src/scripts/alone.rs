@@ -9,12 +9,12 @@ use crate::image::{written, IMAGE_BYTES, PORT_BYTES};
 use crate::lines::hex_text;
 use crate::port::{control_reserved, Port, State, STATES};
 use crate::random::Random;
-use crate::reading::{Sample, RESERVED_FLAGS, SAMPLE_BYTES};
+use crate::reading::{Sample, LOAD_PRESENT, RESERVED_FLAGS, SAMPLE_BYTES};
 use crate::table::{Table, PLACES};
 
 /// Half of the turns go to the flag words, of which there are 640.
 pub fn alone(maker: &mut Maker) {
-    match maker.turn(9) % 10 {
+    match maker.turn(9) % 12 {
         0 => each_flag(maker),
         1 => each_bit_of_control(maker),
         2 => each_request(maker),
@@ -24,6 +24,11 @@ pub fn alone(maker: &mut Maker) {
             }
         }
         4 => left_over(maker),
+        5 => {
+            for place in [0, 47, maker.r.below(48) as usize] {
+                one_short(maker, place);
+            }
+        }
         _ => {
             for _ in 0..3 {
                 flag_words(maker);
@@ -132,6 +137,32 @@ fn flag_words(maker: &mut Maker) {
     // All fits: what is shed would not show its counters' rule.
     let block = maker.hex(&block);
     maker.say(&format!("tick 60000 {block}"));
+    maker.say("dump");
+}
+
+/// A full table in which all claim, one of them last in the ranking, and a supply
+/// that is one short of all: that one alone is shed, whichever place it has.
+fn one_short(maker: &mut Maker, last: usize) {
+    let mut table = Table::zero();
+    table.count = PLACES as u16;
+    for (p, place) in table.ports.iter_mut().enumerate() {
+        let r = &mut maker.r;
+        let asks = p == last && r.chance(50);
+        let state = if asks { State::Idle } else { State::PowerOn };
+        let priority = if p == last { 3 } else { r.between(1, 2) as u16 };
+        let control = priority << 4 | (r.between(1, 2) as u16) << 2 | if asks { 2 } else { 1 };
+        let demand = r.pick(&[40, 70, 154, 300]);
+        *place = Port { control, demand, ..calm_port(r, state) };
+    }
+    image_line(maker, &written(&table));
+    let mut block = Vec::new();
+    for _ in 0..PLACES {
+        block.extend(Sample { flags: LOAD_PRESENT, ..pressing(&mut maker.r) }.bytes());
+    }
+    let ranking = table.ranking(&table.moves(&block));
+    let all: u64 = ranking.iter().map(|claim| u64::from(claim.demand)).sum();
+    let block = maker.hex(&block);
+    maker.say(&format!("tick {} {block}", all - 1));
     maker.say("dump");
 }
 
