@@ -92,6 +92,8 @@ const REFUSALS: [(&str, &[u8]); 9] = [
     ("write12", &[3, 10, 1]),
 ];
 
+const TABLE_CALLS: [&str; 5] = ["cold", "control", "status", "request", "tick"];
+
 pub fn state_name(state: State) -> &'static str {
     match state {
         Disabled => "DISABLED",
@@ -135,6 +137,9 @@ struct Counts {
     last_corners: Vec<&'static str>,
     shown_exits: BTreeMap<(State, State, &'static str), u64>,
     shown_corners: BTreeMap<&'static str, u64>,
+    /// The last line's call and answer, and those that a dump shows.
+    last_call: Option<(&'static str, String)>,
+    shown_calls: BTreeMap<(&'static str, String), u64>,
     latches: [u64; 6],
     refusals: BTreeMap<(&'static str, u8), u64>,
     answers: BTreeMap<(&'static str, String), u64>,
@@ -169,6 +174,7 @@ impl Counts {
             self.order(call, &reasons(&before, line));
             self.alone.line(&before, line, &answer);
         }
+        self.last_call = Some((call, answer_kind(&answer)));
         if let (Some(Line::Tick(figure, block)), Answer::Ticked(ticked)) = (&parsed, &answer) {
             for (p, exit) in ticked.exits.iter().enumerate() {
                 self.exit(exit, &before.ports[p], &Sample::of_port(block, p));
@@ -193,6 +199,9 @@ impl Counts {
         }
         for name in corners.into_iter().filter(|_| dump) {
             *self.shown_corners.entry(name).or_default() += 1;
+        }
+        for call in self.last_call.take().into_iter().filter(|_| dump) {
+            *self.shown_calls.entry(call).or_default() += 1;
         }
     }
 
@@ -231,6 +240,7 @@ impl Counts {
                 let _ = writeln!(text, "| {call} | {number} | {count} |");
             }
         }
+        self.shown_table(&mut text);
         let _ = write!(text, "\n| Call | Other answer | Lines |\n|---|---|---|\n");
         for ((call, answer), count) in &self.answers {
             let _ = writeln!(text, "| {call} | {answer} | {count} |");
@@ -249,6 +259,24 @@ impl Counts {
         }
         self.alone.tables(&mut text);
         text
+    }
+
+    /// The calls on a table: what each answer left, as the next line shows it.
+    fn shown_table(&self, text: &mut String) {
+        let _ = write!(text, "\n| Call | Answer | A dump next |\n|---|---|---|\n");
+        let calls = REFUSALS.iter().filter(|(call, _)| TABLE_CALLS.contains(call));
+        for (call, numbers) in calls {
+            let refused = numbers.iter().map(|number| format!("refused {number}"));
+            let accepted = match *call {
+                "status" => "status",
+                "tick" => "ticked",
+                _ => "ok",
+            };
+            for answer in refused.chain([accepted.to_string()]) {
+                let count = self.shown_calls.get(&(*call, answer.clone())).unwrap_or(&0);
+                let _ = writeln!(text, "| {call} | {answer} | {count} |");
+            }
+        }
     }
 
     fn states_and_latches(&self, text: &mut String) {

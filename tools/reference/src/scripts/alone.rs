@@ -3,7 +3,7 @@
 //! one of them only, so they come in turn.
 
 use super::readings::pressing;
-use super::tables::{image_line, near_port};
+use super::tables::{image_line, near_port, near_table};
 use super::Maker;
 use crate::image::{written, IMAGE_BYTES, PORT_BYTES};
 use crate::lines::hex_text;
@@ -14,7 +14,7 @@ use crate::table::{Table, PLACES};
 
 /// Half of the turns go to the flag words, of which there are 640.
 pub fn alone(maker: &mut Maker) {
-    match maker.turn(9) % 12 {
+    match maker.turn(9) % 13 {
         0 => each_flag(maker),
         1 => each_bit_of_control(maker),
         2 => each_request(maker),
@@ -29,6 +29,7 @@ pub fn alone(maker: &mut Maker) {
                 one_short(maker, place);
             }
         }
+        6 => each_answer(maker),
         _ => {
             for _ in 0..3 {
                 flag_words(maker);
@@ -164,6 +165,62 @@ fn one_short(maker: &mut Maker, last: usize) {
     let block = maker.hex(&block);
     maker.say(&format!("tick {} {block}", all - 1));
     maker.say("dump");
+}
+
+/// Every call with every answer, on a table where much is set, and after each a
+/// dump: an accepted call changes what it names, and a refused one nothing.
+fn each_answer(maker: &mut Maker) {
+    let mut table = near_table(maker, 6);
+    let r = &mut maker.r;
+    let states = [State::PowerOn, State::PowerOn, State::Classifying, State::Disabled];
+    for (place, state) in states.into_iter().enumerate() {
+        table.ports[place] = Port { demand: 40, latches: 63, ..calm_port(r, state) };
+    }
+    table.ports[0].class = 4;
+    table.ports[1].class = 1;
+    table.supply = table.closed_demands() as u16;
+    image_line(maker, &written(&table));
+    let samples = hex_text(&[0; 6 * SAMPLE_BYTES]);
+    each_with_a_dump(maker, &calls_and_refusals(&table, &samples));
+    // Ill-made by one class: 13, whatever the call.
+    table.ports[5].class = 5;
+    image_line(maker, &written(&table));
+    // A cold start forgets all of it, in the places past its count too.
+    let (tick, cold) =
+        (format!("tick 1 {samples}"), maker.r.pick(&["cold 1", "cold 7", "cold 48"]));
+    let calls = ["control 3 21", "status 1", "request 0 1", &tick, cold];
+    each_with_a_dump(maker, &calls.map(str::to_string));
+}
+
+/// For that table: each call accepted, and refused with each number but 13.
+fn calls_and_refusals(table: &Table, samples: &str) -> Vec<String> {
+    let other = table.ports[2].control ^ 0xC;
+    let reserved = format!("{}0040", &samples[4..]);
+    vec![
+        "control 3 21".to_string(),
+        "control 6 5".to_string(),
+        "control 0 69".to_string(),
+        format!("control 2 {other}"),
+        "status 1".to_string(),
+        "status 6".to_string(),
+        "request 0 1".to_string(),
+        "request 6 1".to_string(),
+        "request 0 0".to_string(),
+        "request 2 1".to_string(),
+        "request 1 130".to_string(),
+        "request 0 255".to_string(),
+        format!("tick 1 {}", &samples[2..]),
+        format!("tick 60001 {samples}"),
+        format!("tick 1 {reserved}"),
+        "cold 49".to_string(),
+    ]
+}
+
+fn each_with_a_dump(maker: &mut Maker, calls: &[String]) {
+    for call in calls {
+        maker.say(call);
+        maker.say("dump");
+    }
 }
 
 /// A count of 49, and everything else well-made. Whoever takes it for one finds

@@ -60,7 +60,7 @@ fn any_place(r: &mut Random) -> Port {
     }
 }
 
-fn near_table(maker: &mut Maker, count: u64) -> Table {
+pub fn near_table(maker: &mut Maker, count: u64) -> Table {
     let mut table = Table::zero();
     table.count = count as u16;
     let r = &mut maker.r;
