@@ -5,7 +5,8 @@
  * A number past 32 bits goes into a call as 4294967295: as a port, a port count, a control word, a request, a supply figure, a code
  * or a power value it is then refused as the number itself is.
  *
- * After each refusal everything that was lent is compared with what it was; a difference ends the program with status 1.
+ * After each refusal everything that was lent is compared with what it was; a difference ends the program with status 1. So does a
+ * written TLV of another length than its form's, which no answer shows.
  */
 #include "lines.h"
 
@@ -190,6 +191,10 @@ static int put(uint32_t form, size_t n) {
         if (room[i] != 0xa5)
             wrote("the room, or a call past it");
     if (answer == 0) {
+        if (written != form + 2) {
+            fprintf(stderr, "a TLV of form %" PRIu32 " was written in %" PRIu64 " bytes\n", form, written);
+            exit(1);
+        }
         printf("wrote ");
         show(room, size);
         return 1;

@@ -1,6 +1,7 @@
 /*
- * A port from a cold start to power and shed again, and a power TLV read and written, through the C interface. Every answer
- * is compared with the one that document 01 gives; a difference is an exit status of 1.
+ * A port from a cold start to power and shed again, another on alternative B whose requests are answered, and a power TLV read and
+ * written, through the C interface. Every answer is compared with the one that document 01 gives; a difference is an exit status
+ * of 1.
  *
  *     ipaqsuni            the demonstration
  *     ipaqsuni lines      answers the console's lines (lines.c)
@@ -28,21 +29,22 @@ static void same(const char *what, const void *got, const void *wanted, size_t n
 
 static uint8_t table[IPAQSUNI_TABLE];
 
-/* A tick of the one port: the sample's numbers that are not 0, and what must come of it. */
-static void tick(const char *what, uint32_t supply, const uint8_t sample[14], uint64_t mask_a, uint32_t closed) {
+/* V1 4,000 mV, V2 5,900 mV, I1 0, I2 100 uA, detection done: 1,900/100 is valid. */
+static const uint8_t detected[14] = {0x0f, 0xa0, 0x17, 0x0c, 0, 0, 0, 100, 0, 0, 0, 0, 0, 1};
+
+/* A tick and the masks that must come of it, with so many ports closed. */
+static void tick(const char *what, uint32_t supply, const uint8_t *samples, size_t n, uint64_t mask_a, uint64_t mask_b, uint32_t closed) {
     uint64_t a = 77, b = 77;
-    uint32_t n = 77;
+    uint32_t number = 77;
     printf("%s\n", what);
-    is("  tick", ipaqsuni_tick(table, sizeof table, sample, 14, supply, &a, &b, &n), 0);
+    is("  tick", ipaqsuni_tick(table, sizeof table, samples, n, supply, &a, &b, &number), 0);
     is("  mask a", a, mask_a);
-    is("  mask b", b, 0);
-    is("  closed", n, closed);
+    is("  mask b", b, mask_b);
+    is("  closed", number, closed);
 }
 
 static void shed(void) {
     static const uint8_t still[14] = {0};
-    /* V1 4,000 mV, V2 5,900 mV, I1 0, I2 100 uA, detection done: 1,900/100 is valid. */
-    static const uint8_t detected[14] = {0x0f, 0xa0, 0x17, 0x0c, 0, 0, 0, 100, 0, 0, 0, 0, 0, 1};
     /* C1 10,000 uA, class done: class 1, of 4.0 W. */
     static const uint8_t classified[14] = {0, 0, 0, 0, 0, 0, 0, 0, 0x27, 0x10, 0, 0, 0, 2};
     static const uint8_t loaded[14] = {0, 0, 0, 0, 0, 0, 0, 0, 0, 0, 0, 0, 0, 0x20};
@@ -50,11 +52,11 @@ static void shed(void) {
 
     is("cold start of 1 port", ipaqsuni_cold_start(table, sizeof table, 1), 0);
     is("control: enabled, alternative A", ipaqsuni_write_control(table, sizeof table, 0, 0x0005), 0);
-    tick("DISABLED goes to IDLE", 154, still, 0, 0);
-    tick("IDLE goes to DETECTING", 154, still, 0, 0);
-    tick("a valid signature goes to CLASSIFYING", 154, detected, 0, 0);
-    tick("class 1 goes to POWER_UP: the port is closed", 154, classified, 1, 1);
-    tick("a supply of 3.9 W sheds 4.0 W", 39, loaded, 0, 0);
+    tick("DISABLED goes to IDLE", 154, still, 14, 0, 0, 0);
+    tick("IDLE goes to DETECTING", 154, still, 14, 0, 0, 0);
+    tick("a valid signature goes to CLASSIFYING", 154, detected, 14, 0, 0, 0);
+    tick("class 1 goes to POWER_UP: the port is closed", 154, classified, 14, 1, 0, 1);
+    tick("a supply of 3.9 W sheds 4.0 W", 39, loaded, 14, 0, 0, 0);
     /* Latches 12 denied and 11 valid signature, class 1, condition 1, bit 0. */
     is("status", ipaqsuni_read_status(table, sizeof table, 0, &status), 0);
     is("  word", status, 0x1813);
@@ -86,6 +88,42 @@ static void refusals(void) {
     before[6] = 10;
     is("tick of a state 10", ipaqsuni_tick(before, sizeof before, samples, 14, 154, &a, &b, &n), 13);
     is("the places for answers are as they were", a == 77 && b == 77 && n == 77 && status == 77, 1);
+}
+
+/* A tick of three ports, the last of which has the sample; it is on alternative B. */
+static void tick_last(const char *what, uint32_t supply, const uint8_t sample[14], uint32_t closed) {
+    uint8_t samples[3 * 14] = {0};
+    memcpy(samples + 2 * 14, sample, 14);
+    tick(what, supply, samples, sizeof samples, 0, closed << 2, closed);
+}
+
+static void requests(void) {
+    static const uint8_t still[14] = {0};
+    /* C1 and C2 40,000 uA, class done: class 4, of 30.0 W. */
+    static const uint8_t classified[14] = {0, 0, 0, 0, 0, 0, 0, 0, 0x9c, 0x40, 0x9c, 0x40, 0, 2};
+    static const uint8_t settled[14] = {0, 0, 0, 0, 0, 0, 0, 0, 0, 0, 0, 0, 0, 0x24};
+    uint32_t status = 77;
+
+    is("cold start of 3 ports", ipaqsuni_cold_start(table, sizeof table, 3), 0);
+    is("control of port 2: enabled, alternative B", ipaqsuni_write_control(table, sizeof table, 2, 0x0009), 0);
+    tick_last("port 2 goes to IDLE", 300, still, 0);
+    tick_last("port 2 goes to DETECTING", 300, still, 0);
+    tick_last("port 2 goes to CLASSIFYING", 300, detected, 0);
+    tick_last("class 4 goes to POWER_UP", 300, classified, 1);
+    is("request in POWER_UP", ipaqsuni_request(table, sizeof table, 2, 38), 5);
+    tick_last("settled goes to POWER_ON", 300, settled, 1);
+    is("request of 38: 4.0 W", ipaqsuni_request(table, sizeof table, 2, 38), 0);
+    tick_last("a supply of 4.0 W keeps it", 40, settled, 1);
+    tick_last("a supply of 29.9 W keeps it", 299, settled, 1);
+    is("request of 130: 30.0 W", ipaqsuni_request(table, sizeof table, 2, 130), 12);
+    is("request of 129: 15.4 W", ipaqsuni_request(table, sizeof table, 2, 129), 0);
+    /* Latch 11 valid signature, class 4, condition 2, bit 0. */
+    is("status of port 2", ipaqsuni_read_status(table, sizeof table, 2, &status), 0);
+    is("  word", status, 0x0845);
+    tick_last("a supply of 15.3 W sheds it", 153, settled, 0);
+    /* Latch 12 denied, class 4, condition 1, bit 0. */
+    is("status of port 2", ipaqsuni_read_status(table, sizeof table, 2, &status), 0);
+    is("  word", status, 0x1043);
 }
 
 static void frames(void) {
@@ -128,6 +166,7 @@ int main(int argc, char **argv) {
         return lines();
     shed();
     refusals();
+    requests();
     frames();
     return differences;
 }

@@ -9,11 +9,18 @@ const SMALLER: &str = "a smaller claim below the first that does not fit";
 const CLOSED_BEFORE_ASKING: &str = "a closed port that does not fit, askers below it";
 const LOWER_NUMBER_SHED: &str = "the first that does not fit, a lower port number below it";
 const EQUAL_RANK: &str = "the first that does not fit, its equal in priority below it";
-pub const SHARING_CORNERS: [&str; 4] =
-    [SMALLER, CLOSED_BEFORE_ASKING, LOWER_NUMBER_SHED, EQUAL_RANK];
+const FIRST_SHED: &str = "48 ports, the supply one short of all claims, port 0 shed alone";
+const LAST_SHED: &str = "48 ports, the supply one short of all claims, port 47 shed alone";
+pub const SHARING_CORNERS: [&str; 6] =
+    [SMALLER, CLOSED_BEFORE_ASKING, LOWER_NUMBER_SHED, EQUAL_RANK, FIRST_SHED, LAST_SHED];
 
 /// Corners of the sharing, which need more than one port.
-pub fn sharing_corners(before: &Table, block: &[u8], exits: &[Exit]) -> Vec<&'static str> {
+pub fn sharing_corners(
+    before: &Table,
+    figure: u64,
+    block: &[u8],
+    exits: &[Exit],
+) -> Vec<&'static str> {
     let ranking = before.ranking(&before.moves(block));
     let shed = |port: usize| exits[port].rule.ends_with("shed");
     // "The first that doesn't fit".
@@ -21,7 +28,11 @@ pub fn sharing_corners(before: &Table, block: &[u8], exits: &[Exit]) -> Vec<&'st
         return Vec::new();
     };
     let (first, below) = (&ranking[k], &ranking[k + 1..]);
+    let all: u64 = ranking.iter().map(|claim| u64::from(claim.demand)).sum();
+    let one_short = before.count == 48 && all == figure + 1 && below.is_empty();
     let meets = [
+        (FIRST_SHED, one_short && first.port == 0),
+        (LAST_SHED, one_short && first.port == 47),
         (SMALLER, below.iter().any(|c| c.demand < first.demand)),
         (CLOSED_BEFORE_ASKING, first.group == 0 && below.iter().any(|c| c.group == 1)),
         (LOWER_NUMBER_SHED, below.iter().any(|c| c.port < first.port)),

@@ -1,9 +1,11 @@
 //! `reference count`: how often a script meets each state, exit, latch, refusal
-//! and corner, as tables of Markdown.
+//! and corner, as tables of Markdown. An exit or a corner counts as shown if a dump
+//! comes next.
 
 use std::collections::BTreeMap;
 use std::fmt::Write;
 
+use crate::alone::Alone;
 use crate::corners::{sharing_corners, CORNERS, SHARING_CORNERS};
 use crate::lines::{parsed, Answer, Console, Line};
 use crate::port::{Port, State, State::*, STATES};
@@ -90,6 +92,8 @@ const REFUSALS: [(&str, &[u8]); 9] = [
     ("write12", &[3, 10, 1]),
 ];
 
+const TABLE_CALLS: [&str; 5] = ["cold", "control", "status", "request", "tick"];
+
 pub fn state_name(state: State) -> &'static str {
     match state {
         Disabled => "DISABLED",
@@ -128,11 +132,20 @@ struct Counts {
     lines: u64,
     states: BTreeMap<State, u64>,
     exits: BTreeMap<(State, State, &'static str), u64>,
+    /// The exits and corners of the last line, if that was a tick.
+    last_exits: Vec<(State, State, &'static str)>,
+    last_corners: Vec<&'static str>,
+    shown_exits: BTreeMap<(State, State, &'static str), u64>,
+    shown_corners: BTreeMap<&'static str, u64>,
+    /// The last line's call and answer, and those that a dump shows.
+    last_call: Option<(&'static str, String)>,
+    shown_calls: BTreeMap<(&'static str, String), u64>,
     latches: [u64; 6],
     refusals: BTreeMap<(&'static str, u8), u64>,
     answers: BTreeMap<(&'static str, String), u64>,
     orders: BTreeMap<(&'static str, u8, u8), u64>,
     corners: BTreeMap<&'static str, u64>,
+    alone: Alone,
 }
 
 /// The tables for a script.
@@ -156,16 +169,39 @@ impl Counts {
             Answer::Refused(number) => *self.refusals.entry((call, *number)).or_default() += 1,
             other => *self.answers.entry((call, answer_kind(other))).or_default() += 1,
         }
+        self.shown(parsed == Some(Line::Dump));
         if let Some(line) = &parsed {
             self.order(call, &reasons(&before, line));
+            self.alone.line(&before, line, &answer);
         }
-        if let (Some(Line::Tick(_, block)), Answer::Ticked(ticked)) = (&parsed, &answer) {
+        self.last_call = Some((call, answer_kind(&answer)));
+        if let (Some(Line::Tick(figure, block)), Answer::Ticked(ticked)) = (&parsed, &answer) {
             for (p, exit) in ticked.exits.iter().enumerate() {
                 self.exit(exit, &before.ports[p], &Sample::of_port(block, p));
             }
-            for name in sharing_corners(&before, block, &ticked.exits) {
-                *self.corners.entry(name).or_default() += 1;
+            for name in sharing_corners(&before, *figure, block, &ticked.exits) {
+                self.corner(name);
             }
+        }
+    }
+
+    fn corner(&mut self, name: &'static str) {
+        *self.corners.entry(name).or_default() += 1;
+        self.last_corners.push(name);
+    }
+
+    /// What the last tick met is shown by a dump, or past.
+    fn shown(&mut self, dump: bool) {
+        let (exits, corners) =
+            (std::mem::take(&mut self.last_exits), std::mem::take(&mut self.last_corners));
+        for exit in exits.into_iter().filter(|_| dump) {
+            *self.shown_exits.entry(exit).or_default() += 1;
+        }
+        for name in corners.into_iter().filter(|_| dump) {
+            *self.shown_corners.entry(name).or_default() += 1;
+        }
+        for call in self.last_call.take().into_iter().filter(|_| dump) {
+            *self.shown_calls.entry(call).or_default() += 1;
         }
     }
 
@@ -181,12 +217,13 @@ impl Counts {
     fn exit(&mut self, exit: &Exit, before: &Port, sample: &Sample) {
         *self.states.entry(exit.to).or_default() += 1;
         *self.exits.entry((exit.from, exit.to, exit.rule)).or_default() += 1;
+        self.last_exits.push((exit.from, exit.to, exit.rule));
         for (bit, count) in self.latches.iter_mut().enumerate() {
             *count += u64::from(exit.latched >> bit & 1);
         }
         for (name, meets) in CORNERS {
             if meets(exit, before, sample) {
-                *self.corners.entry(name).or_default() += 1;
+                self.corner(name);
             }
         }
     }
@@ -203,6 +240,7 @@ impl Counts {
                 let _ = writeln!(text, "| {call} | {number} | {count} |");
             }
         }
+        self.shown_table(&mut text);
         let _ = write!(text, "\n| Call | Other answer | Lines |\n|---|---|---|\n");
         for ((call, answer), count) in &self.answers {
             let _ = writeln!(text, "| {call} | {answer} | {count} |");
@@ -212,13 +250,33 @@ impl Counts {
             let count = self.orders.get(&order).unwrap_or(&0);
             let _ = writeln!(text, "| {} | {} | {} | {count} |", order.0, order.1, order.2);
         }
-        let _ = write!(text, "\n| Corner | Moves |\n|---|---|\n");
+        let _ = write!(text, "\n| Corner | Moves | A dump next |\n|---|---|---|\n");
         let names = CORNERS.iter().map(|(name, _)| *name).chain(SHARING_CORNERS);
         for name in names {
             let count = self.corners.get(name).unwrap_or(&0);
-            let _ = writeln!(text, "| {name} | {count} |");
+            let shown = self.shown_corners.get(name).unwrap_or(&0);
+            let _ = writeln!(text, "| {name} | {count} | {shown} |");
         }
+        self.alone.tables(&mut text);
         text
+    }
+
+    /// The calls on a table: what each answer left, as the next line shows it.
+    fn shown_table(&self, text: &mut String) {
+        let _ = write!(text, "\n| Call | Answer | A dump next |\n|---|---|---|\n");
+        let calls = REFUSALS.iter().filter(|(call, _)| TABLE_CALLS.contains(call));
+        for (call, numbers) in calls {
+            let refused = numbers.iter().map(|number| format!("refused {number}"));
+            let accepted = match *call {
+                "status" => "status",
+                "tick" => "ticked",
+                _ => "ok",
+            };
+            for answer in refused.chain([accepted.to_string()]) {
+                let count = self.shown_calls.get(&(*call, answer.clone())).unwrap_or(&0);
+                let _ = writeln!(text, "| {call} | {answer} | {count} |");
+            }
+        }
     }
 
     fn states_and_latches(&self, text: &mut String) {
@@ -234,15 +292,17 @@ impl Counts {
     }
 
     fn exit_table(&self, text: &mut String) {
-        let _ = write!(text, "\n| From | To | Rule | Moves |\n|---|---|---|---|\n");
+        let _ =
+            write!(text, "\n| From | To | Rule | Moves | A dump next |\n|---|---|---|---|---|\n");
         for exit in &EXITS {
             let count = self.exits.get(exit).unwrap_or(&0);
+            let shown = self.shown_exits.get(exit).unwrap_or(&0);
             let (from, to) = (state_name(exit.0), state_name(exit.1));
-            let _ = writeln!(text, "| {from} | {to} | {} | {count} |", exit.2);
+            let _ = writeln!(text, "| {from} | {to} | {} | {count} | {shown} |", exit.2);
         }
         for (exit, count) in &self.exits {
             if !EXITS.contains(exit) {
-                let _ = writeln!(text, "| NOT LISTED: {exit:?} | | | {count} |");
+                let _ = writeln!(text, "| NOT LISTED: {exit:?} | | | {count} | 0 |");
             }
         }
     }

@@ -1,6 +1,7 @@
 //! The port controller once more, written from document 01 and the console's
 //! line language alone; a library, so that other tools can ask it too.
 
+mod alone;
 mod corners;
 pub mod count;
 pub mod image;

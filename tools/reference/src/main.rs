@@ -12,7 +12,8 @@ use std::process::ExitCode;
 const USAGE: &str = "usage: reference answer < LINES
        reference script SEED LINES [KIND] > LINES
        reference count < LINES
-KIND: mixed (the default), walks, limits, illmade, frames, readings, bad";
+KIND: mixed (the default), walks, limits, illmade, frames, readings, bad,
+alone";
 
 fn main() -> ExitCode {
     let words: Vec<String> = std::env::args().skip(1).collect();

@@ -252,16 +252,23 @@ fn images() {
 /// state, exit, latch, refusal, order of checks and corner.
 #[test]
 fn a_script_meets_everything() {
-    let script = scripts::made(1, 20_000, scripts::Kind::Mixed);
-    assert_eq!(script, scripts::made(1, 20_000, scripts::Kind::Mixed));
-    assert_eq!(script.iter().filter(|&&byte| byte == b'\n').count(), 20_000);
+    let script = scripts::made(1, 24_000, scripts::Kind::Mixed);
+    assert_eq!(script, scripts::made(1, 24_000, scripts::Kind::Mixed));
+    assert_eq!(script.iter().filter(|&&byte| byte == b'\n').count(), 24_000);
     let counts = count::counted(&script);
     for row in counts.lines() {
         assert!(!row.ends_with("| 0 |") && !row.contains("NOT LISTED"), "{row}");
     }
-    for row in counts.lines().filter(|r| r.contains("shed from") || r.contains("| request | 12 |"))
-    {
+    let often = |row: &&str| row.contains("shed from") || row.starts_with("| request | 12 | ");
+    for row in counts.lines().filter(often) {
         let met = row.trim_end_matches(" |").rsplit(' ').next().unwrap_or("0");
         assert!(met.parse::<u64>().unwrap() >= 100, "{row}");
+    }
+    let one_by_one = counts.lines().skip_while(|row| !row.starts_with("| One by one"));
+    let rows: Vec<&str> = one_by_one.skip(2).take_while(|row| !row.is_empty()).collect();
+    assert_eq!(rows.len(), 13);
+    for row in rows {
+        let cells: Vec<&str> = row.split(" | ").collect();
+        assert_eq!(cells[1], cells[2].trim_end_matches(" |"), "{row}");
     }
 }

@@ -3,6 +3,8 @@
 //!
 //! A number past 32 bits goes into a call as 4294967295: as a port, a port count, a control word, a request, a supply figure, a
 //! code or a power value it is then refused as the number itself is.
+//!
+//! A refusal that wrote, and a written TLV of another length than its form's, end the program with status 1.
 
 use crate::core::{self, Fields, Refusal, TABLE};
 use std::io::{self, BufRead, Write};
@@ -68,6 +70,12 @@ fn fields_text(fields: Fields) -> String {
     shown.iter().fold("fields".to_string(), |line, field| format!("{line} {field}"))
 }
 
+/// What no answer shows is wrong.
+fn wrong(what: &str) -> ! {
+    eprintln!("{what}");
+    std::process::exit(1)
+}
+
 /// "the room is ROOM bytes (at most 2,048) of A5"
 fn written(form: u32, words: &[&[u8]]) -> Option<String> {
     let values: Vec<u64> = words.iter().map(|word| number(word)).collect::<Option<_>>()?;
@@ -82,7 +90,11 @@ fn written(form: u32, words: &[&[u8]]) -> Option<String> {
     let mut room = vec![0xa5; values[0] as usize];
     let answer = core::write_power_tlv(&fields, &mut room);
     if answer.is_err() && room.iter().any(|&byte| byte != 0xa5) {
-        panic!("a refusal wrote the room");
+        wrong("a refusal wrote the room");
+    }
+    // The header's two bytes, and as many as the form says.
+    if matches!(answer, Ok(length) if length != u64::from(form) + 2) {
+        wrong(&format!("a TLV of form {form} was written in another number of bytes"));
     }
     said(answer.map(|_| format!("wrote {}", text(&room))))
 }
@@ -144,7 +156,7 @@ fn answers(mut input: impl BufRead, mut output: impl Write) -> io::Result<()> {
         let before = table.clone();
         let answer = call(&mut table, &line).unwrap_or_else(|| "bad line".to_string());
         if answer.starts_with("refused") && table != before {
-            panic!("a refusal wrote the table");
+            wrong("a refusal wrote the table");
         }
         writeln!(output, "{answer}")?;
     }

@@ -1,5 +1,6 @@
-//! A port from a cold start to power and shed again, and a power TLV read and written, through the C interface. Every
-//! answer is compared with the one that document 01 gives; a difference is an exit status of 1.
+//! A port from a cold start to power and shed again, another on alternative B whose requests are answered, and a power TLV
+//! read and written, through the C interface. Every answer is compared with the one that document 01 gives; a difference is
+//! an exit status of 1.
 //!
 //!     interface            the demonstration
 //!     interface lines      answers the console's lines
@@ -7,7 +8,7 @@
 mod core;
 mod lines;
 
-use crate::core::{Fields, Refusal, TABLE};
+use crate::core::{Fields, Refusal, Ticked, TABLE};
 use std::process::ExitCode;
 
 struct Shown {
@@ -30,20 +31,42 @@ impl Shown {
     }
 
     /// The numbers of an accepted call, each by its name; a refused one has none, and differs already.
-    fn tick(&mut self, what: &str, table: &mut [u8], supply: u32, sample: [u8; 14], closed: u32) {
+    fn ticked(&mut self, what: &str, got: Result<Ticked, Refusal>, wanted: Ticked) {
         println!("{what}");
-        if let Some(t) = self.answers("  tick", core::tick(table, &sample, supply), 0) {
-            self.is("  mask a", t.mask_a, closed.into());
-            self.is("  mask b", t.mask_b, 0);
-            self.is("  closed", t.closed.into(), closed.into());
+        if let Some(t) = self.answers("  tick", got, 0) {
+            self.is("  mask a", t.mask_a, wanted.mask_a);
+            self.is("  mask b", t.mask_b, wanted.mask_b);
+            self.is("  closed", t.closed.into(), wanted.closed.into());
         }
+    }
+
+    /// A tick of one port, on alternative A.
+    fn tick(&mut self, what: &str, table: &mut [u8], supply: u32, sample: [u8; 14], closed: u32) {
+        let wanted = Ticked { mask_a: closed.into(), mask_b: 0, closed };
+        self.ticked(what, core::tick(table, &sample, supply), wanted);
+    }
+
+    /// A tick of three ports, the last of which has the sample; it is on alternative B.
+    fn tick_last(
+        &mut self,
+        what: &str,
+        table: &mut [u8],
+        supply: u32,
+        sample: [u8; 14],
+        closed: u32,
+    ) {
+        let mut samples = [0; 3 * 14];
+        samples[2 * 14..].copy_from_slice(&sample);
+        let wanted = Ticked { mask_a: 0, mask_b: u64::from(closed) << 2, closed };
+        self.ticked(what, core::tick(table, &samples, supply), wanted);
     }
 }
 
+/// V1 4,000 mV, V2 5,900 mV, I1 0, I2 100 uA, detection done: 1,900/100 is valid.
+const DETECTED: [u8; 14] = [0x0f, 0xa0, 0x17, 0x0c, 0, 0, 0, 100, 0, 0, 0, 0, 0, 1];
+
 fn shed(shown: &mut Shown, table: &mut [u8]) {
     let still = [0; 14];
-    // V1 4,000 mV, V2 5,900 mV, I1 0, I2 100 uA, detection done: 1,900/100 is valid.
-    let detected = [0x0f, 0xa0, 0x17, 0x0c, 0, 0, 0, 100, 0, 0, 0, 0, 0, 1];
     // C1 10,000 uA, class done: class 1, of 4.0 W.
     let classified = [0, 0, 0, 0, 0, 0, 0, 0, 0x27, 0x10, 0, 0, 0, 2];
     let loaded = [0, 0, 0, 0, 0, 0, 0, 0, 0, 0, 0, 0, 0, 0x20];
@@ -53,7 +76,7 @@ fn shed(shown: &mut Shown, table: &mut [u8]) {
     shown.answers("control: enabled, alternative A", control, 0);
     shown.tick("DISABLED goes to IDLE", table, 154, still, 0);
     shown.tick("IDLE goes to DETECTING", table, 154, still, 0);
-    shown.tick("a valid signature goes to CLASSIFYING", table, 154, detected, 0);
+    shown.tick("a valid signature goes to CLASSIFYING", table, 154, DETECTED, 0);
     shown.tick("class 1 goes to POWER_UP: the port is closed", table, 154, classified, 1);
     shown.tick("a supply of 3.9 W sheds 4.0 W", table, 39, loaded, 0);
     // Latches 12 denied and 11 valid signature, class 1, condition 1, bit 0.
@@ -86,6 +109,37 @@ fn refusals(shown: &mut Shown, table: &mut [u8]) {
     before[6] = 10;
     shown.answers("tick of a state 10", core::tick(&mut before, &samples, 154), 13);
     shown.is("the places for answers are as they were", 1, 1);
+}
+
+fn requests(shown: &mut Shown, table: &mut [u8]) {
+    let still = [0; 14];
+    // C1 and C2 40,000 uA, class done: class 4, of 30.0 W.
+    let classified = [0, 0, 0, 0, 0, 0, 0, 0, 0x9c, 0x40, 0x9c, 0x40, 0, 2];
+    let settled = [0, 0, 0, 0, 0, 0, 0, 0, 0, 0, 0, 0, 0, 0x24];
+
+    shown.answers("cold start of 3 ports", core::cold_start(table, 3), 0);
+    let control = core::write_control(table, 2, 0x0009);
+    shown.answers("control of port 2: enabled, alternative B", control, 0);
+    shown.tick_last("port 2 goes to IDLE", table, 300, still, 0);
+    shown.tick_last("port 2 goes to DETECTING", table, 300, still, 0);
+    shown.tick_last("port 2 goes to CLASSIFYING", table, 300, DETECTED, 0);
+    shown.tick_last("class 4 goes to POWER_UP", table, 300, classified, 1);
+    shown.answers("request in POWER_UP", core::request(table, 2, 38), 5);
+    shown.tick_last("settled goes to POWER_ON", table, 300, settled, 1);
+    shown.answers("request of 38: 4.0 W", core::request(table, 2, 38), 0);
+    shown.tick_last("a supply of 4.0 W keeps it", table, 40, settled, 1);
+    shown.tick_last("a supply of 29.9 W keeps it", table, 299, settled, 1);
+    shown.answers("request of 130: 30.0 W", core::request(table, 2, 130), 12);
+    shown.answers("request of 129: 15.4 W", core::request(table, 2, 129), 0);
+    // Latch 11 valid signature, class 4, condition 2, bit 0.
+    if let Some(word) = shown.answers("status of port 2", core::read_status(table, 2), 0) {
+        shown.is("  word", word.into(), 0x0845);
+    }
+    shown.tick_last("a supply of 15.3 W sheds it", table, 153, settled, 0);
+    // Latch 12 denied, class 4, condition 1, bit 0.
+    if let Some(word) = shown.answers("status of port 2", core::read_status(table, 2), 0) {
+        shown.is("  word", word.into(), 0x1043);
+    }
 }
 
 fn frames(shown: &mut Shown) {
@@ -150,6 +204,7 @@ fn main() -> ExitCode {
     let mut table = vec![0; TABLE];
     shed(&mut shown, &mut table);
     refusals(&mut shown, &mut table);
+    requests(&mut shown, &mut table);
     frames(&mut shown);
     ExitCode::from(u8::from(shown.differs))
 }

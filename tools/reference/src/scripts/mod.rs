@@ -1,6 +1,7 @@
 //! The script maker: lines for the console from a seed. It runs its own console
 //! beside, so that it knows the table each line will meet.
 
+mod alone;
 mod bad;
 mod calls;
 mod frames;
@@ -9,8 +10,10 @@ mod tables;
 mod walks;
 
 use crate::lines::{hex_text, Answer, Console};
+use crate::port::State;
 use crate::random::Random;
-use crate::table::Table;
+use crate::table::{Table, Ticked};
+use std::collections::BTreeMap;
 
 #[derive(Clone, Copy, PartialEq, Eq, Debug)]
 pub enum Kind {
@@ -21,20 +24,26 @@ pub enum Kind {
     Frames,
     Readings,
     Bad,
+    Alone,
 }
 
 /// The kinds of a mixed script, with their share of its lines.
-const SHARES: [(Kind, u64); 6] = [
-    (Kind::Walks, 61),
+const SHARES: [(Kind, u64); 7] = [
+    (Kind::Walks, 55),
     (Kind::Limits, 8),
     (Kind::IllMade, 7),
-    (Kind::Frames, 14),
-    (Kind::Readings, 7),
+    (Kind::Frames, 13),
+    (Kind::Readings, 6),
     (Kind::Bad, 3),
+    (Kind::Alone, 8),
 ];
 
-/// In a mixed script at most one line in so many is an image.
+/// In a mixed script at most one line in so many is an image; those that show one
+/// thing alone, and the first dumps of each exit, come on top.
 const LINES_PER_IMAGE: u64 = 40;
+
+/// So often a walk dumps the table that an exit has left.
+const DUMPS_PER_EXIT: u64 = 4;
 
 impl Kind {
     pub fn named(name: &str) -> Option<Kind> {
@@ -46,6 +55,7 @@ impl Kind {
             "frames" => Kind::Frames,
             "readings" => Kind::Readings,
             "bad" => Kind::Bad,
+            "alone" => Kind::Alone,
             _ => return None,
         })
     }
@@ -59,7 +69,9 @@ pub struct Maker {
     wanted: u64,
     images: u64,
     scarce: bool,
-    turns: [u64; 9],
+    turns: [u64; 12],
+    /// How often a dump came right after each exit of a walk.
+    dumped: BTreeMap<(State, State, &'static str), u64>,
     pub long_lines: u64,
     pub walk_lines: u64,
 }
@@ -74,7 +86,8 @@ pub fn made(seed: u64, wanted: u64, kind: Kind) -> Vec<u8> {
         wanted,
         images: 0,
         scarce: kind == Kind::Mixed,
-        turns: [0; 9],
+        turns: [0; 12],
+        dumped: BTreeMap::new(),
         long_lines: 0,
         walk_lines: 0,
     };
@@ -113,6 +126,7 @@ impl Maker {
             Kind::Frames => frames::frames(self),
             Kind::Readings => readings::readings(self),
             Kind::Bad => bad::bad(self),
+            Kind::Alone => self.unrationed(alone::alone),
         }
     }
 
@@ -161,6 +175,27 @@ impl Maker {
 
     pub fn lines(&self) -> u64 {
         self.lines
+    }
+
+    /// Images said here are no part of the ration.
+    fn unrationed(&mut self, say: impl FnOnce(&mut Maker)) {
+        let images = self.images;
+        say(self);
+        self.images = images;
+    }
+
+    /// A dump after a tick in which a port left in a way that few dumps show.
+    pub fn dump_after(&mut self, ticked: &Ticked) {
+        let exits = ticked.exits.iter().map(|exit| (exit.from, exit.to, exit.rule));
+        let few = |exit| self.dumped.get(&exit).copied().unwrap_or(0) < DUMPS_PER_EXIT;
+        if !self.full() && exits.clone().any(few) {
+            for exit in exits {
+                *self.dumped.entry(exit).or_default() += 1;
+            }
+            self.unrationed(|maker| {
+                maker.say("dump");
+            });
+        }
     }
 
     pub fn dump(&mut self) {

@@ -28,7 +28,7 @@ fn near_counter(r: &mut Random, limit: u64) -> u16 {
 }
 
 /// A well-made port in the given state, its counters near their limits.
-fn near_port(r: &mut Random, state: port::State) -> Port {
+pub fn near_port(r: &mut Random, state: port::State) -> Port {
     let enable = match (state, r.below(20)) {
         (_, 0) | (port::State::Disabled, 1..=7) => 0,
         (port::State::Idle | port::State::TestMode | port::State::TestError, 1..=13) => 2,
@@ -60,7 +60,7 @@ fn any_place(r: &mut Random) -> Port {
     }
 }
 
-fn near_table(maker: &mut Maker, count: u64) -> Table {
+pub fn near_table(maker: &mut Maker, count: u64) -> Table {
     let mut table = Table::zero();
     table.count = count as u16;
     let r = &mut maker.r;
@@ -79,7 +79,7 @@ fn near_table(maker: &mut Maker, count: u64) -> Table {
     table
 }
 
-fn image_line(maker: &mut Maker, image: &[u8]) {
+pub fn image_line(maker: &mut Maker, image: &[u8]) {
     let image = maker.hex(image);
     maker.say(&format!("table {image}"));
 }

@@ -168,7 +168,7 @@ fn control_line(maker: &mut Maker, theme: &Theme) {
 }
 
 /// A tick, and what the plans say of its samples.
-fn tick(maker: &mut Maker, theme: &Theme, plans: &mut [Plan]) -> Answer {
+fn tick(maker: &mut Maker, theme: &Theme, plans: &mut [Plan]) {
     let mut block = Vec::new();
     for (p, plan) in plans.iter_mut().enumerate() {
         let state = maker.table().ports[p].state;
@@ -184,7 +184,9 @@ fn tick(maker: &mut Maker, theme: &Theme, plans: &mut [Plan]) -> Answer {
     }
     let figure = supply(maker, &block, theme);
     let block = maker.hex(&block);
-    maker.say(&format!("tick {figure} {block}"))
+    if let Answer::Ticked(ticked) = maker.say(&format!("tick {figure} {block}")) {
+        maker.dump_after(&ticked);
+    }
 }
 
 /// A run of limiting or overload that ends around 60, in one of the three states

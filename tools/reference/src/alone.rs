@@ -1,0 +1,179 @@
+//! What a script should have tried one by one: each flag alone, each word of the
+//! six flags in each state, each bit of a control word, a count of 49, bytes that
+//! an earlier line left. A move counts here only if a dump shows what it left.
+
+use std::collections::{BTreeMap, BTreeSet};
+use std::fmt::Write;
+
+use crate::count::state_name;
+use crate::lines::{Answer, Line};
+use crate::port::{control_reserved, Port, State, STATES};
+use crate::reading::{Sample, LOAD_PRESENT, RESERVED_FLAGS, SAMPLE_BYTES};
+use crate::table::Table;
+
+const FLAGS: [&str; 6] =
+    ["detection done", "class done", "settled", "limiting", "overload", "load present"];
+
+/// A count of 49 with every place well-made, and a supply that is a control word.
+const CALLS_AT_49: [&str; 5] =
+    ["tick, 48 samples", "tick, 49 samples", "status", "control", "request"];
+
+const LEFT_IMAGE: &str = "table accepted, the bytes that an earlier line left past it no port";
+const LEFT_FLAGS: &str = "tick accepted, the bytes that an earlier line left past it reserved";
+
+#[derive(Default)]
+pub struct Alone {
+    /// The flag's bit, whether in another port than 0.
+    flags: BTreeMap<(u32, bool), u64>,
+    /// Moves of the last tick: kept if a dump comes next.
+    open: Vec<(State, u16)>,
+    words: BTreeMap<(State, u16), u64>,
+    control_words: BTreeSet<u64>,
+    control_bits: BTreeSet<u32>,
+    requests: BTreeSet<(u8, u64)>,
+    at_49: BTreeMap<&'static str, u64>,
+    left_over: BTreeMap<&'static str, u64>,
+    /// What the HEX of all lines so far would leave in one long buffer.
+    left: Vec<u8>,
+}
+
+impl Alone {
+    pub fn line(&mut self, before: &Table, line: &Line, answer: &Answer) {
+        let open = std::mem::take(&mut self.open);
+        match (line, answer) {
+            (Line::Dump, _) => {
+                for word in open {
+                    *self.words.entry(word).or_default() += 1;
+                }
+            }
+            (Line::Tick(_, block), Answer::Ticked(_)) => self.accepted(before, block),
+            (Line::Tick(_, block), Answer::Refused(3)) => self.refused(block),
+            (Line::Control(port, word), Answer::Ok | Answer::Refused(3)) => {
+                self.control(&before.ports[*port as usize], *word);
+            }
+            (Line::Request(port, value), Answer::Ok | Answer::Refused(11 | 12)) => {
+                self.requests.insert((before.ports[*port as usize].class, *value));
+            }
+            _ => {}
+        }
+        self.count_of_49(before, line);
+        self.leftovers(line, answer);
+    }
+
+    fn accepted(&mut self, before: &Table, block: &[u8]) {
+        for p in 0..usize::from(before.count) {
+            let flags = Sample::of_port(block, p).flags;
+            self.open.push((before.ports[p].state, flags));
+            if flags.is_power_of_two() {
+                *self.flags.entry((flags.trailing_zeros(), p > 0)).or_default() += 1;
+            }
+        }
+    }
+
+    /// The only reserved flag of the block, and the only flag of its port.
+    fn refused(&mut self, block: &[u8]) {
+        let words = (0..block.len() / SAMPLE_BYTES).map(|p| (p, Sample::of_port(block, p).flags));
+        let bad: Vec<_> = words.filter(|(_, flags)| flags & RESERVED_FLAGS != 0).collect();
+        if let [(p, flags)] = bad[..] {
+            if flags.is_power_of_two() {
+                *self.flags.entry((flags.trailing_zeros(), p > 0)).or_default() += 1;
+            }
+        }
+    }
+
+    fn control(&mut self, port: &Port, word: u64) {
+        if word < 64 && port.state == State::Disabled {
+            self.control_words.insert(word);
+        }
+        let above = word >> 6;
+        if above.is_power_of_two() && !control_reserved(word % 64) {
+            self.control_bits.insert(6 + above.trailing_zeros());
+        }
+    }
+
+    fn count_of_49(&mut self, before: &Table, line: &Line) {
+        let fooled = before.count == 49
+            && !control_reserved(u64::from(before.supply))
+            && !before.ports.iter().any(Port::ill_made);
+        let call = match line {
+            Line::Tick(_, block) if block.len() == 48 * SAMPLE_BYTES => CALLS_AT_49[0],
+            Line::Tick(_, block) if block.len() == 49 * SAMPLE_BYTES => CALLS_AT_49[1],
+            Line::Status(_) => CALLS_AT_49[2],
+            Line::Control(..) => CALLS_AT_49[3],
+            Line::Request(..) => CALLS_AT_49[4],
+            _ => return,
+        };
+        *self.at_49.entry(call).or_default() += u64::from(fooled);
+    }
+
+    fn leftovers(&mut self, line: &Line, answer: &Answer) {
+        let (Line::Table(bytes) | Line::Tick(_, bytes) | Line::Search(bytes) | Line::Read(bytes)) =
+            line
+        else {
+            return;
+        };
+        let past = |k: usize| self.left.get(bytes.len() + k).copied().unwrap_or(0);
+        let name = match answer {
+            Answer::Ok if past(0) > 9 || past(6) > 63 => LEFT_IMAGE,
+            Answer::Ticked(_) if past(12) > 0 || past(13) > 63 => LEFT_FLAGS,
+            _ => "",
+        };
+        *self.left_over.entry(name).or_default() += 1;
+        let kept = self.left.len().max(bytes.len());
+        self.left.resize(kept, 0);
+        self.left[..bytes.len()].copy_from_slice(bytes);
+    }
+
+    pub fn tables(&self, text: &mut String) {
+        self.flag_table(text);
+        let _ = write!(text, "\n| Alone in POWER_ON, then a dump | Moves |\n|---|---|\n");
+        for (bit, name) in FLAGS.iter().enumerate() {
+            let count = self.words.get(&(State::PowerOn, 1 << bit)).unwrap_or(&0);
+            let _ = writeln!(text, "| {name} | {count} |");
+        }
+        let _ = write!(text, "\n| One by one | Of | Met |\n|---|---|---|\n");
+        for (name, all, met) in self.sets() {
+            let _ = writeln!(text, "| {name} | {all} | {met} |");
+        }
+        let _ = write!(text, "\n| A count of 49, the supply a control word | Lines |\n|---|---|\n");
+        for call in CALLS_AT_49 {
+            let _ = writeln!(text, "| {call} | {} |", self.at_49.get(call).unwrap_or(&0));
+        }
+        let _ = write!(text, "\n| Left over | Lines |\n|---|---|\n");
+        for name in [LEFT_IMAGE, LEFT_FLAGS] {
+            let _ = writeln!(text, "| {name} | {} |", self.left_over.get(name).unwrap_or(&0));
+        }
+    }
+
+    fn flag_table(&self, text: &mut String) {
+        let _ = write!(text, "\n| A port's only flag | In | Answer | Lines |\n|---|---|---|---|\n");
+        for bit in 0..16 {
+            for (other, place) in [(false, "port 0"), (true, "another port")] {
+                let accepted = 1u16 << bit & RESERVED_FLAGS == 0;
+                let answer = if accepted { "ticked" } else { "refused 3, no other reserved" };
+                let count = self.flags.get(&(bit, other)).unwrap_or(&0);
+                let _ = writeln!(text, "| {bit} | {place} | {answer} | {count} |");
+            }
+        }
+    }
+
+    /// Sets of which every member has to be met: their name, how many there are
+    /// and how many were met.
+    fn sets(&self) -> Vec<(String, usize, usize)> {
+        let mut sets = Vec::new();
+        for state in STATES {
+            let met = self.words.keys().filter(|word| word.0 == state).count();
+            let name = format!("words of the six flags in {}, then a dump", state_name(state));
+            sets.push((name, 2 * usize::from(LOAD_PRESENT), met));
+        }
+        let edges = [1, 38, 39, 64, 65, 129, 130, 255];
+        let near = self.requests.iter().filter(|request| edges.contains(&request.1)).count();
+        let bits = "bits 6 to 63 alone beside a right control word";
+        sets.extend([
+            ("control words below 64 in DISABLED".into(), 64, self.control_words.len()),
+            (bits.into(), 58, self.control_bits.len()),
+            ("values at a step of the request, by class".into(), 5 * edges.len(), near),
+        ]);
+        sets
+    }
+}
