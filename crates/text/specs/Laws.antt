@@ -4,17 +4,20 @@ use Prim.Native.Nat.{ℕ, zero, suc, _+_, _-_, _*_, _/_, _%_, _^_, _≤_, _<_}
 use mathlib.Core.Path.{_≡_, refl, sym, _∙_, ap, ap₂}
 use mathlib.Core.Bool.{Bool, true, false, cond, not, _&&_}
 use mathlib.Core.List.{List, [], _∷_, _++_}
-use mathlib.Core.Logic.{⊎-elim}
-use native.Mathlib.Nat.{mul-assoc, pow-suc, eq-or-lt-of-le, not-suc-le-zero}
+use mathlib.Core.Logic.{_⊎_, inl, inr, ⊎-elim}
+use native.Mathlib.Nat.{mul-assoc, pow-suc, eq-or-lt-of-le, le-of-suc-le-suc, not-suc-le-zero}
 use native.Mathlib.Omega.{arith}
 use lib.Dec.{eqb, leb, ltb}
-use lib.ListN.{length, getD, length-append, List·getD-append}
+use lib.ListN.{length, getD, drop, length-append, List·getD-append}
 use lib.Seq.{getD-append-seam}
 use borrow.Author.Tests.{lt-ltb, le-leb, eqb-true, ltb-true, ltb-false}
 use Rattle.lists.specs.Every.{every, every-of}
+use Rattle.lists.specs.Places.{tabulate, tabulate-at, tabulated, side}
 use Rattle.lists.specs.Table.{all}
 use Rattle.text.specs.Decimal.{isDigit, value, isNumber, numberIn, spelt, decimal, most}
+use Rattle.text.specs.Hex.{nibbleOf, isHex, pairOf, glyphOf, hexOf, bytesIn, bytesOf, roomAfter, took, pairs}
 use Rattle.text.specs.Words.{before, words, some-word}
+use Rattle.text.specs.declared.parts.Bytes.the-variants.{Are}
 use Rattle.text.specs.declared.parts.Number.the-variants.{Is}
 
 -- words with a space before each
@@ -173,3 +176,67 @@ spelt-first (suc k) n p h = go (ltb n 10) refl (spelt-first k (n / 10))
 pub number-plain : (n : ℕ) → 0 < n → n ≤ most → getD (decimal n) 0 0 ≡ 48 → ⊥
 unfolding decimal
 number-plain n p h = spelt-first 19 n p (omega arith)
+
+-- a digit that is written reads back
+glyph-back : (n : ℕ) → n < 16 → nibbleOf (glyphOf n) ≡ n
+unfolding nibbleOf glyphOf tabulate
+glyph-back n h = tabulate-at 16 (λ m. nibbleOf (glyphOf m)) (λ m. m) refl n h
+
+glyph-hex : (n : ℕ) → n < 16 → isHex (glyphOf n) ≡ true
+unfolding isHex
+glyph-hex n h = let e = glyph-back n h in lt-ltb (nibbleOf (glyphOf n)) 16 (omega arith)
+
+hex-length : (bytes : List ℕ) → length (hexOf bytes) ≡ 2 * length bytes
+unfolding hexOf
+hex-length [] = refl
+hex-length (b ∷ bytes) = let i = hex-length bytes in omega arith
+
+hex-high : (bytes : List ℕ) (k : ℕ) → k < length bytes → getD (hexOf bytes) (2 * k) 0 ≡ glyphOf (getD bytes k 0 / 16)
+unfolding hexOf
+hex-high [] k h = absurd (not-suc-le-zero h)
+hex-high (b ∷ bytes) zero h = refl
+hex-high (b ∷ bytes) (suc k) h = ap (λ (j : ℕ). getD (hexOf (b ∷ bytes)) j 0) (let e : 2 * suc k ≡ suc (suc (2 * k)) = omega arith in e) ∙ hex-high bytes k (le-of-suc-le-suc h)
+
+hex-low : (bytes : List ℕ) (k : ℕ) → k < length bytes → getD (hexOf bytes) (2 * k + 1) 0 ≡ glyphOf (getD bytes k 0 % 16)
+unfolding hexOf
+hex-low [] k h = absurd (not-suc-le-zero h)
+hex-low (b ∷ bytes) zero h = refl
+hex-low (b ∷ bytes) (suc k) h = ap (λ (j : ℕ). getD (hexOf (b ∷ bytes)) j 0) (let e : 2 * suc k + 1 ≡ suc (suc (2 * k + 1)) = omega arith in e) ∙ hex-low bytes k (le-of-suc-le-suc h)
+
+module _ (bytes : List ℕ) (small : (p : ℕ) → p < length bytes → getD bytes p 0 < 256) where
+  high-small : (k : ℕ) → k < length bytes → getD bytes k 0 / 16 < 16
+  high-small k h = let s = small k h in omega arith
+
+  hex-each : (p : ℕ) → p < length (hexOf bytes) → isHex (getD (hexOf bytes) p 0) ≡ true
+  hex-each p h =
+      let k : ℕ = p / 2 in
+      let n = hex-length bytes in
+      let l : k < length bytes = omega arith in
+      ⊎-elim
+      (λ (e : p ≡ 2 * k). ap (λ (j : ℕ). isHex (getD (hexOf bytes) j 0)) e ∙ ap isHex (hex-high bytes k l) ∙ glyph-hex (getD bytes k 0 / 16) (high-small k l))
+      (λ (e : 2 * k < p). ap (λ (j : ℕ). isHex (getD (hexOf bytes) j 0)) (let q : p ≡ 2 * k + 1 = omega arith in q) ∙ ap isHex (hex-low bytes k l) ∙ glyph-hex (getD bytes k 0 % 16) (omega arith))
+      (even (side (2 * k) p))
+    where
+      even : (2 * (p / 2) < p) ⊎ (p ≤ 2 * (p / 2)) → (p ≡ 2 * (p / 2)) ⊎ (2 * (p / 2) < p)
+      even (inl g) = inr g
+      even (inr g) = inl (omega arith)
+
+  hex-back : bytesIn (hexOf bytes) ≡ bytes
+  unfolding bytesIn
+  hex-back =
+      let n = hex-length bytes in
+      sym
+      (tabulated (length (hexOf bytes) / 2) (λ k. pairOf (getD (hexOf bytes) (2 * k) 0) (getD (hexOf bytes) (2 * k + 1) 0)) 0 bytes (omega arith)
+      (λ p h.
+      let l : p < length bytes = omega arith in
+      let a : nibbleOf (getD (hexOf bytes) (2 * p) 0) ≡ getD bytes p 0 / 16 = ap nibbleOf (hex-high bytes p l) ∙ glyph-back (getD bytes p 0 / 16) (high-small p l) in
+      let b : nibbleOf (getD (hexOf bytes) (2 * p + 1) 0) ≡ getD bytes p 0 % 16 = ap nibbleOf (hex-low bytes p l) ∙ glyph-back (getD bytes p 0 % 16) (omega arith) in
+      omega arith))
+
+  -- bytes that are written read back as those bytes
+  pub bytes-back : (room : List ℕ) → 0 < length bytes → length bytes ≤ length room → (Are (length bytes) ≡ bytesOf (hexOf bytes) room) × (bytes ++ drop (length bytes) room ≡ roomAfter (hexOf bytes) room)
+  bytes-back room h l =
+      let n = hex-length bytes in
+      let e : length (hexOf bytes) / 2 ≡ length bytes = omega arith in
+      let t = took (hexOf bytes) room (pairs (hexOf bytes) room (omega arith) (omega arith) (omega arith) (every-of (length (hexOf bytes)) (λ p. isHex (getD (hexOf bytes) p 0)) hex-each)) in
+      (ap Are (sym e) ∙ t .0, ap₂ (λ (b : List ℕ) (k : ℕ). b ++ drop k room) (sym hex-back) (sym e) ∙ t .1)

@@ -19,7 +19,7 @@ bytes-of-spec =
     (λ c. let a = c .before .before .before .before .before .args in no-digit (now (a .word)) (now (a .room)) (c .before .before .if1 .taken) (c .if2 .left))
     (λ c. let a = c .before .before .before .before .args in empty (now (a .word)) (now (a .room)) (c .if3 .taken))
     (λ c. let a = c .before .before .before .before .before .args in odd (now (a .word)) (now (a .room)) (c .before .before .if1 .left) (c .if4 .taken))
-    (λ c. let a = c .before .before .before .before .before .before .args in small (now (a .word)) (now (a .room)) (c .if5 .taken))
+    (λ c. let a = c .before .before .before .before .before .before .args in small (now (a .word)) (now (a .room)) (omega arith))
     (λ c κs. search needs)
     (λ c.
     let a = c .before .before .before .before .before .before .before .before .args in

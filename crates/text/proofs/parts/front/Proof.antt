@@ -12,6 +12,6 @@ pub front-spec : {M : Type 1} → statement M
 front-spec =
     tie.close
     (tie.spec
-    (λ c. sym (length-take-le _ _ (c .before .if1 .taken)))
+    (λ c. sym (length-take-le _ _ (omega arith)))
     (λ c. search needs)
     (λ c. sym (take-all (c .before .args .n) (now (c .before .args .bytes)) (omega arith))))

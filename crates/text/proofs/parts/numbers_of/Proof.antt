@@ -34,7 +34,7 @@ numbers-of-spec =
     Inv-loop
     μ-loop
     (λ c κs. search needs)
-    (λ c. let a = c .before .before .before .args in c .no-numbers .ensures ∙ sym (too-many (now (a .line)) (a .many) (c .before .if1 .taken)))
+    (λ c. let a = c .before .before .before .args in c .no-numbers .ensures ∙ sym (too-many (now (a .line)) (a .many) (omega arith)))
     (λ c κs. search needs)
     (λ c. search needs)
     (λ c κs. search needs)

@@ -13,7 +13,7 @@ pair-spec =
     tie.close
     (tie.spec
     (λ c. search needs)
-    (λ c. let h = hex-small _ (c .before .pre .0) in omega (arith, c .nibble .ensures))
+    (λ c. let h = hex-small _ (c .before .pre .0) in let l = hex-small _ (c .before .pre .1) in omega (arith, c .nibble .ensures))
     (λ c. search needs)
     (λ c. let h = hex-small _ (c .before .before .pre .0) in let l = hex-small _ (c .before .before .pre .1) in omega (arith, c .before .nibble .ensures, c .nibble2 .ensures))
     (λ c. ap₂ (λ (h l : ℕ). 16 * h + l) (c .before .nibble .ensures) (c .nibble2 .ensures)))
