@@ -504,7 +504,7 @@ class Body:
 
     def other_answers(self):
         """The answers that end the function, each replaced by its neighbour."""
-        answers = [(k + 1, self.source.find(k, self.last, ";")) for k in range(self.first, self.last)
+        answers = [(k + 1, self.source.find(k, self.last, ";", ",", "}")) for k in range(self.first, self.last)
                    if self.tokens[k].text == "return" and self.tokens[k + 1].text != ";"]
         last = list(self.statements(self.first, self.last))[-1:]
         if last and not last[0][2] and getattr(self.owner, "answer", "") and self.tokens[last[0][0]].text not in ("if", "match", "loop"):
