@@ -350,7 +350,8 @@ class Body:
     def other_numbers(self, k):
         text, suffix = re.fullmatch(r"(0x[0-9a-fA-F_]+?|[\d_]+)([ui](?:8|16|32|64|size))?", self.tokens[k].text).groups()
         value, written = int(text.replace("_", ""), 0), "{:#x}" if text.startswith("0x") else "{}"
-        others = [value + 1] + [value - 1] * (value > 0)
+        # A loop that takes no step has no other end than the time limit.
+        others = [value + 1] + [value - 1] * (value > (self.tokens[k - 1].text in ("+=", "-=")))
         # A long number in hex is a table of bits.
         if text.startswith("0x") and len(text) > 6:
             others += [value ^ 1 << bit for bit in range(4 * len(text.replace("_", "")) - 8)]
