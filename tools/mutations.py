@@ -29,6 +29,11 @@ COUNTED = {"+": ("-",), "-": ("+",), "*": ("/", "+"), "/": ("%", "*"), "%": ("/"
 OPENING, CLOSING = {"(": ")", "[": "]", "{": "}"}, {")", "]", "}"}
 
 
+def shape_of(function):
+    """What has to be alike for one function to be called in place of another."""
+    return [kind for _, kind in function.params], function.answer, function.home
+
+
 class Source:
     """A file: its tokens, the partner of each bracket, and where each name that it imports comes from."""
 
@@ -311,6 +316,7 @@ class Body:
             element = re.fullmatch(r"&?\[(\w+)(;.*)?\]", kind or "")
             return (element.group(1) if element else None), self.source.partner[k] + 1
         if tokens[k + 2].text == "(":
+            fields.append((k + 1, kind))
             called = [f for f in self.code.functions.get(tokens[k + 1].text, []) if f.home and f.home == kind]
             return (called[0].answer if called else "usize" if tokens[k + 1].text == "len" else None), self.source.partner[k + 2] + 1
         fields.append((k + 1, kind))
@@ -411,7 +417,11 @@ class Body:
         yield from self.other_names(k, named)
 
     def siblings(self, home, field):
-        """The fields of a struct that are of the same type; of every struct that has the field if the type is not known."""
+        """The methods or fields of a struct that are of the same type; the fields of every struct that has it if the struct is not known."""
+        methods = [f for f in sum(self.code.functions.values(), []) if f.home and f.home == home]
+        shapes = [shape_of(f) for f in methods if f.name == field]
+        if shapes:
+            return sorted(f.name for f in methods if f.name != field and shape_of(f) in shapes)
         homes = [home] if home in self.code.structs else self.code.field_homes.get(field, []) if home is None else []
         found = []
         for name in homes:
@@ -435,6 +445,8 @@ class Body:
             for other, types in variants.items():
                 if other != names[-1] and types == variants.get(names[-1]):
                     yield self.edit(last, last + 1, other, "variant")
+            if self.tokens[last + 1].text == "(":
+                yield from self.exchanged(last + 1, list(variants.get(names[-1], ())))
         elif self.tokens[last + 1].text == "(":
             yield from self.other_calls(last, names)
         elif self.constant(names):
@@ -447,11 +459,10 @@ class Body:
         called = self.function(names)
         if not called:
             return
-        shape = lambda f: ([kind for _, kind in f.params], f.answer, f.home)
         for f in sum(self.code.functions.values(), []):
             imported = self.source.imports.get(f.name) == f.source.name
             near = f.source is called.source if len(names) > 1 or called.source is self.source else imported
-            if f.name != called.name and near and f.params and shape(f) == shape(called):
+            if f.name != called.name and near and f.params and shape_of(f) == shape_of(called):
                 yield self.edit(last, last + 1, f.name, "function")
         yield from self.exchanged(last + 1, [kind for _, kind in called.params])
 
