@@ -12,7 +12,7 @@ use lib.ListN.{length, getD, drop, length-drop}
 use lib.Seq.{drop-cons, drop-length}
 use borrow.Author.Tests.{lt-ltb, le-ltb, lt-leb, le-leb, leb-false, leb-true}
 use Rattle.lists.specs.Every.{every, every-not}
-use Rattle.lists.specs.Tests.{passed, and-left, and-right}
+use Rattle.lists.specs.Tests.{and-left, and-right}
 use Rattle.text.specs.declared.parts.Number.{Number}
 use Rattle.text.specs.declared.parts.Number.the-variants.{Is, Bad}
 

@@ -12,7 +12,6 @@ use Rattle.lists.specs.Every.{every, every-not}
 use Rattle.lists.specs.Places.{tabulate, Filled, filled-over}
 use Rattle.text.specs.Decimal.{isNumber, numberIn, value}
 use Rattle.text.specs.Words.{words, wordAt}
-use Rattle.text.specs.declared.parts.Number.{Number}
 use Rattle.text.specs.declared.parts.Number.the-variants.{Is, Bad}
 use Rattle.text.specs.declared.parts.Numbers.{Numbers}
 

@@ -1,12 +1,12 @@
 -- Text put into a room from a place on, as far as it fits.
 -- Assumes nothing.
-use Prim.Native.Nat.{ℕ, zero, suc, _+_, _-_, _≤_, _<_}
+use Prim.Native.Nat.{ℕ, suc, _+_, _-_, _≤_, _<_}
 use mathlib.Core.Path.{_≡_, refl, sym, _∙_, ap, ap₂}
 use mathlib.Core.List.{List, [], _∷_, _++_, append-assoc, append-nil}
 use mathlib.Core.Logic.{⊎-elim}
 use native.Mathlib.Omega.{arith}
 use native.Mathlib.Numerals.{add-one}
-use lib.ListN.{length, getD, take, drop, set, length-append, length-take, length-drop, length-set, take-append-drop, drop-of-length-le}
+use lib.ListN.{length, getD, take, drop, set, length-append, length-set, take-append-drop, drop-of-length-le}
 use lib.Seq.{sets, length-sets, take-all, take-nil, take-suc, take-suc-set, drop-set-lt, set-out, length-take-le}
 use Rattle.lists.specs.Places.{side}
 

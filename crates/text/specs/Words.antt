@@ -2,8 +2,9 @@
 -- Assumes nothing.
 use Prim.Native.Nat.{ℕ, zero, suc, _+_, _-_, _≤_, _<_}
 use mathlib.Core.Path.{_≡_, refl, sym, _∙_, ap}
-use mathlib.Core.Bool.{cond}
+use mathlib.Core.Bool.{Bool, true, false, cond}
 use mathlib.Core.List.{List, [], _∷_, _++_, append-assoc}
+use native.Mathlib.Nat.{not-suc-le-zero}
 use native.Mathlib.Numerals.{add-one}
 use native.Mathlib.Omega.{arith}
 use lib.Dec.{eqb}
@@ -44,14 +45,14 @@ unfolding words before
 some-word [] = omega arith
 some-word (b ∷ l) = go (eqb b 32) (words l)
   where
-    go : (t : mathlib.Core.Bool.Bool) (ws : List (List ℕ)) → 1 ≤ length (cond t ([] ∷ ws) (before b ws))
-    go mathlib.Core.Bool.true ws = omega arith
-    go mathlib.Core.Bool.false [] = omega arith
-    go mathlib.Core.Bool.false (w ∷ ws) = omega arith
+    go : (t : Bool) (ws : List (List ℕ)) → 1 ≤ length (cond t ([] ∷ ws) (before b ws))
+    go true ws = omega arith
+    go false [] = omega arith
+    go false (w ∷ ws) = omega arith
 
 pub count-before : (b : ℕ) (ws : List (List ℕ)) → 1 ≤ length ws → length (before b ws) ≡ length ws
 unfolding before
-count-before b [] h = absurd (native.Mathlib.Nat.not-suc-le-zero h)
+count-before b [] h = absurd (not-suc-le-zero h)
 count-before b (w ∷ ws) h = refl
 
 pub first-before : (b : ℕ) (ws : List (List ℕ)) → getD (before b ws) 0 [] ≡ b ∷ getD ws 0 []

@@ -2,9 +2,9 @@
 ghost use mathlib.Core.Path.{_≡_};
 ghost use mathlib.Core.Bool.{true};
 ghost use mathlib.Core.List.{_++_};
-ghost use Rattle.lists.specs.Every.{every};
 ghost use Prim.Native.Nat.{_≤_, _/_, _-_};
 ghost use lib.ListN.{length, take, drop, getD};
+ghost use Rattle.lists.specs.Every.{every};
 ghost use Rattle.text.specs.Decimal.{moreOf, numberIn};
 ghost use Rattle.text.specs.Hex.{nibbleOf, isHex, pairOf, bytesIn, bytesOf, roomAfter};
 ghost use Rattle.text.specs.Numbers.{numbersIn, noNumbers};

@@ -6,7 +6,7 @@ use lib.ListN.{length, getD}
 use mathlib.Core.Path.{_≡_}
 use native.Mathlib.Nat.{le-antisymm}
 use native.Mathlib.Omega.{arith}
-use Prim.Native.Nat.{ℕ, _≤_, _-_, _+_, _*_, _/_}
+use Prim.Native.Nat.{_≤_, _-_, _+_, _*_, _/_}
 use Rattle.lists.specs.Every.{every-at}
 use Rattle.lists.specs.Places.{Filled, filled-none, filled-more}
 use Rattle.text.specs.Hex.{isHex, pairOf, bytesIn, filled-front}

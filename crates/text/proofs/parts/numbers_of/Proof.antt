@@ -2,13 +2,13 @@
 -- Assumes nothing.
 use borrow.Author.Needs.{needs}
 use denote.Ref.{now}
-use lib.ListN.{length, replicate}
-use mathlib.Core.Bool.{Bool, true, _&&_}
+use lib.ListN.{replicate}
+use mathlib.Core.Bool.{true, _&&_}
 use mathlib.Core.List.{List}
 use mathlib.Core.Path.{_≡_, refl, sym, _∙_, ap, ap₂}
 use native.Mathlib.Nat.{le-antisymm}
 use native.Mathlib.Omega.{arith}
-use Prim.Native.Nat.{ℕ, _≤_, _-_, _+_}
+use Prim.Native.Nat.{ℕ, _≤_, _-_}
 use Rattle.lists.specs.Every.{every, every-next}
 use Rattle.lists.specs.Places.{Filled, filled-none, filled-more}
 use Rattle.text.specs.Decimal.{isNumber, numberIn, value}

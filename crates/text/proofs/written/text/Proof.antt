@@ -4,11 +4,11 @@ use borrow.Author.Needs.{needs}
 use denote.Ref.{now}
 use lib.ListN.{length, getD, take}
 use lib.Seq.{take-length}
-use mathlib.Core.List.{List, [], _∷_, _++_, append-assoc}
-use mathlib.Core.Path.{_≡_, refl, sym, _∙_, ap}
+use mathlib.Core.List.{[], _∷_}
+use mathlib.Core.Path.{_≡_, _∙_, ap}
 use native.Mathlib.Nat.{le-antisymm}
 use native.Mathlib.Omega.{arith}
-use Prim.Native.Nat.{ℕ, _≤_, _-_, _+_, _/_, _%_}
+use Prim.Native.Nat.{ℕ, _≤_, _-_}
 use Rattle.text.specs.Room.{Put, put-none, put-more, take-next}
 use Rattle.text.proofs.written.text.Statement.{statement}
 use Rattle.text.proofs.written.text.Tie as tie
