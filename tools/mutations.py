@@ -256,7 +256,7 @@ class Body:
 
     def constant(self, names):
         found = self.code.constants.get(names[-1], [])
-        home = names[-2] if len(names) > 1 else None
+        home = names[-2] if len(names) > 1 else self.source.imports.get(names[0])
         near = [c for c in found if (c.home == home if home and home[0].isupper() else c.source is self.source or c.source.name == home)]
         return near[0] if near else None
 
