@@ -6,6 +6,8 @@ use mathlib.Core.Path.{_≡_, refl}
 use mathlib.Core.Bool.{Bool, true, false}
 use mathlib.Core.List.{List, [], _∷_, map}
 use Rattle.lists.specs.Bits.{field}
+use Rattle.lists.specs.Count.{mask}
+use Rattle.lists.specs.Total.{total}
 use Rattle.power.specs.Power.{tenths, forced}
 use Rattle.words.specs.Control.{enableOf, pairOf, priorityOf}
 use Rattle.words.specs.Status.{noLatches, join}
@@ -247,6 +249,36 @@ pub counters-hold : map (λ (r : Before × Counts). counted (r .0)) counters ≡
 unfolding counters counted step byState enableOf pairOf field up during idle detected detecting backoff errorDelay classed classifying stressed watched risen powerUp powerOn testMode testError enter
 counters-hold = refl
 
+-- the counters of a port that has others before the tick: its state, its control word, its counters, what its sample reads
+pub data Ending : Type 0 where
+  ending : State → ℕ → Counts → Reading → Ending
+
+unfoldable pub ended : Ending → Counts
+ended (ending s w c r) = step forced (counting s w c) r .port .counts
+
+-- both faults, and no load
+abbrev faulty : Reading
+faulty = reads NotDone NotClassed false true true false
+
+-- in the tick that enters ERROR_DELAY or TEST_ERROR all counters of the state left have advanced, and ERROR_DELAY's own is 0; DETECTING reaches
+-- 500 with its counter; TEST_MODE left because enable is 01 is no tick of the two enable rules, and its two counts run on (our reading)
+pub endings : List (Ending × Counts)
+endings =
+    (ending PowerUp on (counts 11 22 33 44 59 7 77) limits, counts 11 22 0 45 60 0 77)
+    ∷ (ending PowerUp on (counts 11 22 33 44 7 59 77) overloads, counts 11 22 0 45 0 60 77)
+    ∷ (ending PowerOn on (counts 11 22 33 44 59 59 77) faulty, counts 11 22 0 44 60 60 78)
+    ∷ (ending TestMode force (counts 11 22 33 44 59 7 77) limits, counts 11 22 33 44 60 0 77)
+    ∷ (ending TestMode force (counts 11 22 33 44 7 59 77) overloads, counts 11 22 33 44 0 60 77)
+    ∷ (ending Detecting on (counts 499 22 33 44 55 56 77) quiet, counts 500 22 33 44 55 56 77)
+    ∷ (ending TestMode on before does-both, counts 11 22 33 44 56 57 77)
+    ∷ (ending TestMode on before quiet, counts 11 22 33 44 0 0 77)
+    ∷ (ending TestMode off before does-both, before)
+    ∷ []
+
+pub endings-hold : map (λ (r : Ending × Counts). ended (r .0)) endings ≡ map (λ (r : Ending × Counts). r .1) endings
+unfolding endings ended step byState enableOf pairOf field up during idle detected detecting backoff errorDelay classed classifying stressed watched risen powerUp powerOn testMode testError enter
+endings-hold = refl
+
 -- a counter stops at 2,000
 pub counter-stops : map up (0 ∷ 1998 ∷ 1999 ∷ 2000 ∷ []) ≡ 1 ∷ 1999 ∷ 2000 ∷ 2000 ∷ []
 unfolding up
@@ -342,3 +374,8 @@ pub entries-hold :
     ≡ counts 11 22 33 44 0 0 77 ∷ counts 11 22 33 44 0 0 77 ∷ before ∷ []
 unfolding settled granted shed enter
 entries-hold = refl
+
+-- 48 closed ports fill bits 0 to 47 of a mask, and none of bits 48 to 63
+pub full-mask : mask 48 (λ p. true) ≡ 281474976710655
+unfolding mask total
+full-mask = refl

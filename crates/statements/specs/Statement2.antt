@@ -1,23 +1,30 @@
--- The second statement. "Each port moves as document 01's diagram rules say, tick by tick, and the supply is shared by its rule. Power
--- TLVs are read as IEEE 802.3 lays them out; what is written reads back as the same fields."
+-- The second statement. "Each port moves as the diagram rules of document 01 say, tick by tick: signature, class, timers, faults, and the
+-- rule by which the supply is shared. Power TLVs of IEEE 802.3 are read as the standard lays them out, and what is written reads back as
+-- the same fields."
 -- Assumes nothing.
-use Prim.Native.Nat.{ℕ, _*_, _≤_, _<_}
+use Prim.Native.Nat.{ℕ, _+_, _*_, _≤_, _<_}
 use mathlib.Core.Path.{_≡_, refl, sym, _∙_, ap, subst}
-use mathlib.Core.Bool.{true, _&&_, false≢true}
+use mathlib.Core.Bool.{Bool, true, false, _&&_, false≢true}
 use mathlib.Core.List.{List}
 use mathlib.Core.Logic.{⊎-elim}
 use native.Mathlib.Omega.{arith}
-use borrow.Author.Tests.{lt-ltb, le-ltb}
+use borrow.Author.Tests.{lt-ltb, le-ltb, lt-leb, le-leb}
 use Rattle.lists.specs.Bits.{bit}
-use Rattle.lists.specs.Count.{count, bit-mask}
+use Rattle.lists.specs.Count.{count, bit-mask, bit-past}
 use Rattle.power.specs.Power.{tenths, forced}
 use Rattle.power.specs.declared.Power.{Power}
 use Rattle.reading.specs.Sample.{sampleAt}
 use Rattle.words.specs.Control.{pairOf}
-use Rattle.settling.specs.Settle.{rank, settled}
+use Rattle.port.specs.Closed.{closed}
+use Rattle.port.specs.Entry.{enter}
+use Rattle.port.specs.Form.{latching, latchDenied}
+use Rattle.settling.specs.Settle.{rank, granted, inTest, shed, settled}
 use Rattle.diagram.specs.Step.{step}
 use Rattle.port.specs.declared.form.Moved.{Moved}
-use Rattle.share.specs.Share.{keeps}
+use Rattle.port.specs.declared.form.Port.{Port}
+use Rattle.port.specs.declared.form.State.the-variants.{Idle, TestError}
+use Rattle.share.specs.Laws.{shed-after, kept-sum-fits, longest}
+use Rattle.share.specs.Share.{claims, before, keeps, keptSum}
 use Rattle.tick.specs.Digest.{digest}
 use Rattle.table.specs.Form.{portAt}
 use Rattle.statements.specs.Kept.{port-after-at, after-well, closed-number}
@@ -49,6 +56,14 @@ pub record Ticks (t : Table) (block : List ℕ) (figure : ℕ) (after : Table) (
   pub shared : (p : ℕ) → keptAt t block (tenths figure) p ≡ keeps 48 (rankAt t block) (λ q. claimAt t block q .0) figure p
   pub claimed : (p : ℕ) → p < t .count → claimAt t block p ≡ moves t block p .port .demand
   pub unclaimed : (p : ℕ) → t .count ≤ p → rankAt t block p ≡ 6
+  -- "The first that doesn't fit and all after it are shed, smaller ones too."
+  pub sheds : (q p : ℕ) → claims (rankAt t block) q ≡ true → keptAt t block (tenths figure) q ≡ false → before (rankAt t block) q p ≡ true
+      → keptAt t block (tenths figure) p ≡ false
+  -- what is kept fits, and is the longest first part of the ranking that does: with the first that is shed it is over the figure
+  pub fits : keptSum 48 (rankAt t block) (λ q. claimAt t block q .0) figure ≤ figure
+  pub no-longer : (q : ℕ) → q < 48 → claims (rankAt t block) q ≡ true → keptAt t block (tenths figure) q ≡ false
+      → ((r : ℕ) → r < 48 → claims (rankAt t block) r ≡ true → before (rankAt t block) r q ≡ true → keptAt t block (tenths figure) r ≡ true)
+      → figure < keptSum 48 (rankAt t block) (λ r. claimAt t block r .0) figure + claimAt t block q .0
   -- places past the count stay as they were
   pub past : (p : ℕ) → p < 48 → t .count ≤ p → portAt after p ≡ portAt t p
   pub same-count : after .count ≡ t .count
@@ -58,9 +73,25 @@ pub record Ticks (t : Table) (block : List ℕ) (figure : ℕ) (after : Table) (
   pub answers : answer ≡ Ports (maskA after) (maskB after) (count 48 (closedAt after))
   pub bit-a : (p : ℕ) → p < 48 → bit p (maskA after) ≡ (closedAt after p && namesA (pairOf (portAt after p .control)))
   pub bit-b : (p : ℕ) → p < 48 → bit p (maskB after) ≡ (closedAt after p && namesB (pairOf (portAt after p .control)))
+  -- no bit stands past the table's places
+  pub no-bit-a : (p : ℕ) → 48 ≤ p → bit p (maskA after) ≡ false
+  pub no-bit-b : (p : ℕ) → 48 ≤ p → bit p (maskB after) ≡ false
+
+-- what the sharing does to a port that has moved, case by case; ranks below 6 are claims
+pub record Settles (rank : ℕ) (m : Moved) : Type 0 where
+  -- "An asker kept enters its state; one shed goes to IDLE."
+  pub kept-asker : rank < 6 → m .asks ≡ true → settled rank true m ≡ granted (m .port .state) (m .port)
+  pub shed-asker : rank < 6 → m .asks ≡ true → inTest (m .port .state) ≡ false → settled rank false m ≡ latching latchDenied (enter Idle (m .port)) .port
+  -- "A closed port shed goes to IDLE, or from TEST_MODE to TEST_ERROR."; kept, it stays
+  pub kept-closed : rank < 6 → m .asks ≡ false → settled rank true m ≡ m .port
+  pub shed-closed : rank < 6 → closed (m .port .state) ≡ true → inTest (m .port .state) ≡ false → settled rank false m ≡ latching latchDenied (enter Idle (m .port)) .port
+  pub shed-in-test : rank < 6 → inTest (m .port .state) ≡ true → settled rank false m ≡ latching latchDenied (enter TestError (m .port)) .port
+  -- a port that claims nothing is as its move left it
+  pub no-claim : (kept : Bool) → 6 ≤ rank → settled rank kept m ≡ m .port
 
 pub record Second : Type 0 where
   pub ticks : (t : Table) (block : List ℕ) (figure : ℕ) → accepted (tick t block figure .answer) ≡ true → Ticks t block figure (tick t block figure .table) (tick t block figure .answer)
+  pub settles : (rank : ℕ) (m : Moved) → Settles rank m
   -- "Whatever is written reads back as written; bytes that read, with 3:2 zero, are rewritten the same."
   pub reads-back : WrittenReads
   pub rewrites : ReadRewrites
@@ -85,6 +116,16 @@ module _ (t : Table) (block : List ℕ) (figure : ℕ) where
   unfolding keptAt
   kept-here p = refl
 
+  sheds-so : (q p : ℕ) → claims (rankAt t block) q ≡ true → keptAt t block (tenths figure) q ≡ false → before (rankAt t block) q p ≡ true → keptAt t block (tenths figure) p ≡ false
+  unfolding keptAt
+  sheds-so q p c k b = shed-after 48 (rankAt t block) (λ r. claimAt t block r .0) figure q p c k b
+
+  no-longer-so : (q : ℕ) → q < 48 → claims (rankAt t block) q ≡ true → keptAt t block (tenths figure) q ≡ false
+      → ((r : ℕ) → r < 48 → claims (rankAt t block) r ≡ true → before (rankAt t block) r q ≡ true → keptAt t block (tenths figure) r ≡ true)
+      → figure < keptSum 48 (rankAt t block) (λ r. claimAt t block r .0) figure + claimAt t block q .0
+  unfolding keptAt
+  no-longer-so q l c k h = longest 48 (rankAt t block) (λ r. claimAt t block r .0) figure q l c k h
+
   port-here : (p : ℕ) → p < t .count → portAfter t block (tenths figure) p ≡ settled (rankAt t block p) (keptAt t block (tenths figure) p) (moves t block p)
   unfolding portAfter movedAt
   port-here p l = simp (lt-ltb p (t .count) l)
@@ -100,6 +141,38 @@ bits-a u p l = bit-mask 48 (λ q. closedAt u q && namesA (pairOf (portAt u q .co
 bits-b : (u : Table) (p : ℕ) → p < 48 → bit p (maskB u) ≡ (closedAt u p && namesB (pairOf (portAt u p .control)))
 unfolding maskB
 bits-b u p l = bit-mask 48 (λ q. closedAt u q && namesB (pairOf (portAt u q .control))) p l
+
+past-a : (u : Table) (p : ℕ) → 48 ≤ p → bit p (maskA u) ≡ false
+unfolding maskA
+past-a u p l = bit-past 48 (λ q. closedAt u q && namesA (pairOf (portAt u q .control))) p l
+
+past-b : (u : Table) (p : ℕ) → 48 ≤ p → bit p (maskB u) ≡ false
+unfolding maskB
+past-b u p l = bit-past 48 (λ q. closedAt u q && namesB (pairOf (portAt u q .control))) p l
+
+module _ (rank : ℕ) (m : Moved) where
+  to-idle : rank < 6 → inTest (m .port .state) ≡ false → settled rank false m ≡ latching latchDenied (enter Idle (m .port)) .port
+  unfolding settled shed
+  to-idle l e = simp (lt-leb 6 rank l, e)
+
+  to-test-error : rank < 6 → inTest (m .port .state) ≡ true → settled rank false m ≡ latching latchDenied (enter TestError (m .port)) .port
+  unfolding settled shed
+  to-test-error l e = simp (lt-leb 6 rank l, e)
+
+  enters : rank < 6 → m .asks ≡ true → settled rank true m ≡ granted (m .port .state) (m .port)
+  unfolding settled
+  enters l e = simp (lt-leb 6 rank l, e)
+
+  stays : rank < 6 → m .asks ≡ false → settled rank true m ≡ m .port
+  unfolding settled
+  stays l e = simp (lt-leb 6 rank l, e)
+
+  left-alone : (kept : Bool) → 6 ≤ rank → settled rank kept m ≡ m .port
+  unfolding settled
+  left-alone kept l = simp (le-leb 6 rank l)
+
+  settles-so : Settles rank m
+  settles-so = record { kept-asker = enters; shed-asker = λ l a e. to-idle l e; kept-closed = stays; shed-closed = λ l c e. to-idle l e; shed-in-test = to-test-error; no-claim = left-alone }
 
 answered-table : (u : Table) → answered u .table ≡ u
 unfolding answered
@@ -122,12 +195,17 @@ ran-ticks t block figure m f =
       shared = kept-here t block figure;
       claimed = claim-here t block figure;
       unclaimed = rank-past t block figure;
+      sheds = sheds-so t block figure;
+      fits = kept-sum-fits 48 (rankAt t block) (λ q. claimAt t block q .0) figure;
+      no-longer = no-longer-so t block figure;
       past = λ p l g. port-after-at t block (tenths figure) p l ∙ port-past t block figure p g;
       same-count = count-after t block (tenths figure);
       stored = supply-after t block (tenths figure);
       answers = ap (Ports (maskA u) (maskB u)) (closed-number u w);
       bit-a = bits-a u;
       bit-b = bits-b u;
+      no-bit-a = past-a u;
+      no-bit-b = past-b u;
     }
 
 ticks-so : (t : Table) (block : List ℕ) (figure : ℕ) → accepted (tick t block figure .answer) ≡ true → Ticks t block figure (tick t block figure .table) (tick t block figure .answer)
@@ -142,4 +220,4 @@ ticks-so t block figure e =
     answered-ticks m f = subst (λ (u : Table). Ticks t block figure u (answered (tableAfter t block (tenths figure)) .answer)) (sym (answered-table (tableAfter t block (tenths figure)))) (ran-ticks t block figure m f)
 
 pub statement-2 : Second
-statement-2 = record { ticks = ticks-so; reads-back = written-reads; rewrites = read-rewrites; finds = found-power; takes = taken-power }
+statement-2 = record { ticks = ticks-so; settles = settles-so; reads-back = written-reads; rewrites = read-rewrites; finds = found-power; takes = taken-power }
