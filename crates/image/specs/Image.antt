@@ -1,4 +1,4 @@
--- The image of a table, byte by byte: "count (2), supply (4), then 48 ports of 21 bytes", big-endian.
+-- The image of a table, byte by byte. docs/CONSOLE.md: "1,014 bytes, big-endian: count (2), supply (4), then 48 ports of 21 bytes".
 use Prim.Native.Nat.{ℕ, _+_, _-_, _/_, _%_}
 use mathlib.Core.Bool.{Bool, cond}
 use mathlib.Core.List.{List, [], _∷_, _++_}
@@ -14,7 +14,7 @@ use Rattle.port.specs.declared.form.State.the-variants.{Disabled, Idle, Detecti
 use Rattle.table.specs.Form.{portAt}
 use Rattle.table.specs.declared.form.Table.{Table}
 
--- "state (1; 0 DISABLED, 1 IDLE, 2 DETECTING, 3 BACKOFF, 4 CLASSIFYING, 5 POWER_UP, 6 POWER_ON, 7 ERROR_DELAY, 8 TEST_MODE, 9 TEST_ERROR)"
+-- the state, 1 byte. docs/CONSOLE.md: "0 DISABLED, 1 IDLE, 2 DETECTING, 3 BACKOFF, 4 CLASSIFYING, 5 POWER_UP, 6 POWER_ON, 7 ERROR_DELAY, 8 TEST_MODE, 9 TEST_ERROR"
 abbrev pub codeOf : State → ℕ
 codeOf Disabled = 0
 codeOf Idle = 1
@@ -27,7 +27,7 @@ codeOf ErrorDelay = 7
 codeOf TestMode = 8
 codeOf TestError = 9
 
--- "latches (1: bit 5 denied, 4 valid, 3 invalid, 2 short circuit, 1 overload, 0 load absent)"
+-- the latches, 1 byte. docs/CONSOLE.md: "bit 5 denied, 4 valid, 3 invalid, 2 short circuit, 1 overload, 0 load absent"
 unfoldable pub latchByte : Latches → ℕ
 latchByte l = place 5 (l .denied) + place 4 (l .valid) + place 3 (l .invalid) + place 2 (l .short) + place 1 (l .overload) + place 0 (l .absent)
 
@@ -35,15 +35,15 @@ latchByte l = place 5 (l .denied) + place 4 (l .valid) + place 3 (l .invalid) + 
 abbrev pub word : ℕ → List ℕ
 word n = n / 256 ∷ n % 256 ∷ []
 
--- "seven counters of 2 bytes: detection, backoff, error delay, power-on, limiting, overload, no load"
+-- docs/CONSOLE.md: "counters of 2 bytes: detection, backoff, error delay, power-on, limiting, overload, no load"
 abbrev pub countBytes : Counts → List ℕ
 countBytes c = word (c .detection) ++ word (c .backoff) ++ word (c .«error_delay») ++ word (c .«power_on») ++ word (c .limiting) ++ word (c .overload) ++ word (c .«no_load»)
 
--- a port's 21 bytes: "state (1 ..), control (2), class (1), demand (2), latches (1 ..), then seven counters"
+-- a port's 21 bytes: state 1, control word 2, class 1, demand 2, latches 1, counters 14
 unfoldable pub portBytes : Port → List ℕ
 portBytes p = codeOf (p .state) ∷ (word (p .control) ++ (p .class ∷ word (p .demand .0)) ++ (latchByte (p .latches) ∷ countBytes (p .counts)))
 
--- "count (2), supply (4)": a supply of the table's type has no more than its two low bytes
+-- count 2, supply 4: a supply of the table's type has no more than its two low bytes
 unfoldable pub headBytes : Table → List ℕ
 headBytes t = word (t .count) ++ (0 ∷ 0 ∷ word (t .supply .0))
 

@@ -33,7 +33,7 @@ stateOf n =
     (cond (eqb n 7) ErrorDelay
     (cond (eqb n 8) TestMode TestError))))))))
 
--- "bit 5 denied, 4 valid, 3 invalid, 2 short circuit, 1 overload, 0 load absent"
+-- docs/CONSOLE.md: "bit 5 denied, 4 valid, 3 invalid, 2 short circuit, 1 overload, 0 load absent"
 unfoldable pub latchesOf : ℕ → Latches
 latchesOf n = record { denied = bit 5 n; valid = bit 4 n; invalid = bit 3 n; short = bit 2 n; overload = bit 1 n; absent = bit 0 n }
 
@@ -68,7 +68,7 @@ portIn bytes at =
 unfoldable pub tableOf : List ℕ → Table
 tableOf bytes = record { ports = tabulate 48 (λ p. portIn bytes (6 + 21 * p)); count = wordAt bytes 0; supply = tenths (wordAt bytes 4) }
 
--- no "state is over 9", no "latch bit over 5 is set"
+-- no state over 9, and no latch bit over 5 set
 unfoldable pub portReads : List ℕ → ℕ → Bool
 portReads bytes at = leb (getD bytes at 0) 9 && ltb (getD bytes (at + 6) 0) 64
 

@@ -52,11 +52,11 @@ ofStatus told = worded (told .table) (told .answer)
 abbrev pub ofTick : Ticked → Outcome WithMasks
 ofTick told = masked (told .table) (told .answer)
 
--- "A lent table that is no image .. is refused with 13, before everything else."
+-- include/ipaqsuni.h: "A lent table that is no image is refused with 13, before everything else"
 abbrev pub lent : {X : Type 0} → List ℕ → (Table → Outcome X) → Outcome X
 lent bytes call = cond (loaded bytes .ok) (call (loaded bytes .table)) (refused 13)
 
--- "a wrong length: 13; then 2; the bytes that the room held before do not matter otherwise"
+-- include/ipaqsuni.h: "What the room held before does not matter. Refused: 13 for a room of another length", then 2
 unfoldable pub coldCall : List ℕ → ℕ → Outcome Table
 coldCall room ports = cond (stores room) (ofTold (coldStart ports)) (refused 13)
 

@@ -42,7 +42,7 @@ use Rattle.ipaqsuni.specs.Outcome.{Outcome, refused, accepted, numberOf,
 use Rattle.ipaqsuni.specs.Calls.{ofTold, ofStatus, ofTick, lent, coldCall, controlCall, statusCall, requestCall, tickCall}
 use Rattle.ipaqsuni.specs.Tlv.{ofSearch, ofRead, ofWrite, findCall, readCall, noFields, fieldsGiven, writeCall}
 
--- "a refusal writes no byte anywhere": of any call and anything lent to it
+-- include/ipaqsuni.h: "A refusal writes no byte anywhere", of any call and anything lent to it
 pub refused-leaves : {X Y : Type 0} (f : X → Y) (o : Outcome X) (before : Y) → (numberOf o ≡ 0 → ⊥) → leaves f o before ≡ before
 refused-leaves f (refused number) before h = refl
 refused-leaves f (accepted x) before h = absurd (h refl)

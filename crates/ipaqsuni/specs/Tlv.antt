@@ -1,5 +1,5 @@
--- The calls on a PDU and on a power TLV, whose fields are nine numbers: "form (7 or 12), support, pair, class, type, source, priority,
--- requested, allocated (the last five 0 for form 7)".
+-- The calls on a PDU and on a power TLV, whose fields are nine numbers: form (7 or 12), support, pair, class, type, source, priority,
+-- requested, allocated (the last five 0 for form 7).
 use Prim.Native.Nat.{ℕ, _<_, _^_}
 use mathlib.Core.Bool.{Bool, cond, _||_, not}
 use mathlib.Core.List.{List, [], _∷_}
@@ -53,7 +53,7 @@ abbrev pub formNumber : Form → ℕ
 formNumber Short = 7
 formNumber (Long added) = 12
 
--- "the last five 0 for form 7"
+-- the last five are 0 for form 7
 abbrev pub addedNumbers : Form → List ℕ
 addedNumbers Short = 0 ∷ 0 ∷ 0 ∷ 0 ∷ 0 ∷ []
 addedNumbers (Long a) = a .kind ∷ a .source ∷ a .priority ∷ a .requested ∷ a .allocated ∷ []
@@ -66,11 +66,11 @@ abbrev pub Narrow : Form → Type 0
 Narrow Short = Unit
 Narrow (Long a) = (a .kind < 2 ^ 32) × (a .source < 2 ^ 32) × (a .priority < 2 ^ 32) × (a .requested < 2 ^ 32) × (a .allocated < 2 ^ 32)
 
--- "a form other than 7 and 12"
+-- include/ipaqsuni.h: "a form other than 7 and 12"
 unfoldable pub noForm : ℕ → Bool
 noForm form = not (eqb form 7 || eqb form 12)
 
--- "a form other than 7 and 12, or one of the three octets over 255: 3"
+-- refusal 3 of the interface: a form other than 7 and 12, or one of the three octets over 255
 unfoldable pub noFields : List ℕ → Bool
 noFields n = noForm (getD n 0 0) || (ltb 255 (getD n 1 0) || (ltb 255 (getD n 2 0) || ltb 255 (getD n 3 0)))
 

@@ -24,7 +24,7 @@ unfoldable pub isFour : Class → Bool
 isFour (Is k) = eqb k 4
 isFour Failure = false
 
--- "If C1 reads class 4, C2 must too, else failure. With any other class C2 isn't looked at."
+-- "If C1 reads class 4, C2 must too, else failure .. With any other class C2 isn't looked at."
 unfoldable pub classOfTwo : ℕ → ℕ → Class
 classOfTwo c1 c2 = cond (isFour (classOf c1)) (cond (isFour (classOf c2)) (Is 4) Failure) (classOf c1)
 

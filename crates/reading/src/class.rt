@@ -30,7 +30,7 @@ fn is_four(class: Class) -> bool
     }
 }
 
-// Document 01: "If C1 reads class 4, C2 must too, else failure. With any other class C2 isn't looked at."
+// Document 01: "If C1 reads class 4, C2 must too, else failure .. With any other class C2 isn't looked at."
 pub fn class_of_two(c1: u16, c2: u16) -> Class
     ensures { λ r. ⌜ r ≡ classOfTwo c1 c2 ⌝ }
 {

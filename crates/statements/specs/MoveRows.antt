@@ -156,7 +156,7 @@ rows =
     ∷ (from Idle on 0 quiet, record { state = Detecting; class = 0; demand = 70; latched = noLatches; asks = false })
     ∷ (from Idle force 0 quiet, record { state = Idle; class = 2; demand = 154; latched = noLatches; asks = true })
     ∷ (from Idle reserved 0 quiet, to Idle)
-    -- "DETECTING: at 500 to IDLE. Else if detection is done": a result in the tick that reaches 500 is not taken
+    -- "DETECTING (counter from entry): at 500 to IDLE. Else if detection is done": a result in the tick that reaches 500 is not taken
     ∷ (from Detecting on 498 quiet, to Detecting)
     ∷ (from Detecting on 499 quiet, to-idle)
     ∷ (from Detecting on 498 (detects Valid), latches latchValid Classifying)
@@ -165,12 +165,12 @@ rows =
     ∷ (from Detecting on 0 (detects Open), idle-with latchInvalid)
     ∷ (from Detecting on-b 0 (detects Invalid), latches latchInvalid Backoff)
     ∷ (from Detecting on-b 0 (detects Open), idle-with latchInvalid)
-    -- "BACKOFF: at 2,000 to IDLE. ERROR_DELAY: at 750 to IDLE."
+    -- "BACKOFF (counter from entry): at 2,000 to IDLE. ERROR_DELAY (counter from entry): at 750 to IDLE."
     ∷ (from Backoff on 1998 quiet, to Backoff)
     ∷ (from Backoff on 1999 quiet, to-idle)
     ∷ (from ErrorDelay on 748 quiet, to ErrorDelay)
     ∷ (from ErrorDelay on 749 quiet, to-idle)
-    -- "CLASSIFYING: at 400 to IDLE. Else if class is done: failure to IDLE; a class sets class and demand, and asks for POWER_UP."
+    -- "CLASSIFYING (power-on counter from entry): at 400 to IDLE. Else if class is done: failure to IDLE; a class sets class and demand, and asks for POWER_UP."
     ∷ (from Classifying on 398 quiet, to Classifying)
     ∷ (from Classifying on 399 quiet, to-idle)
     ∷ (from Classifying on 399 (gives (Is 3 (tenths 154))), to-idle)

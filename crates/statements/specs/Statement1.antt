@@ -1,5 +1,5 @@
--- The first statement. "Any table, sample block, control word, frame or number may be handed in. The core answers, or refuses with a
--- number from document 01; a refusal changes no table and writes no byte." For each call stands the list of its refusals, in document
+-- The first statement. "Any table, sample block, control word, frame or number may be handed in. The core answers or refuses with a
+-- number from document 01, and each refusal changes no table and writes no byte." For each call stands the list of its refusals, in document
 -- 01's order: the number given is that of the first entry whose condition holds, and a value is answered exactly if none does.
 -- Assumes nothing.
 use Prim.Native.Nat.{ℕ, _*_}
@@ -153,7 +153,7 @@ pub record First : Type 0 where
   pub searched : (bytes : List ℕ) → searchTold (searchOf bytes) ≡ firstOf (searchRefusals bytes)
   pub read : (bytes : List ℕ) → readTold (readOf bytes) ≡ firstOf (readRefusals bytes)
   pub written : (f : Fields) (room : List ℕ) → writeTold (writtenOf f room) ≡ firstOf (writeRefusals f room)
-  -- "a refusal changes no table and writes no byte"
+  -- "each refusal changes no table and writes no byte"
   pub control-kept : (t : Table) (p w k : ℕ) → told (writeControl t p w .answer) ≡ number k → writeControl t p w .table ≡ t
   pub status-kept : (t : Table) (p k : ℕ) → statusTold (readStatus t p .answer) ≡ number k → readStatus t p .table ≡ t
   pub asked-kept : (t : Table) (p v k : ℕ) → told (request t p v .answer) ≡ number k → request t p v .table ≡ t

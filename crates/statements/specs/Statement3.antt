@@ -1,6 +1,7 @@
--- The third statement. "From any table that calls reach from a cold start, one sample block and two supply figures in range: every port
--- closed under the smaller is closed under the greater; under either, the closed ports' demands add up to no more than the figure; and
--- no port outside the forced test state is closed unless, since it last stood in IDLE, it showed a valid signature and gave a class."
+-- The third statement. "Take any table that calls can reach from a cold start, one block of samples, and two supply figures, each within
+-- range; let the tick be accepted. Every port closed under the smaller figure is closed under the greater. Under either, the closed ports'
+-- demands add up to no more than that figure, and no port outside the forced test state is closed unless, since it last stood in IDLE, it
+-- showed a valid signature and gave a class."
 -- Assumes nothing.
 use Prim.Native.Nat.{ℕ, _≤_}
 use mathlib.Core.Path.{_≡_, refl, sym, _∙_, subst}
@@ -27,9 +28,9 @@ use Rattle.statements.specs.Shows.{Needs}
 
 -- what is claimed of a history h from a cold start of n ports, a block, and two figures
 pub record Third (n : ℕ) (h : List Call) (block : List ℕ) (less more : ℕ) : Type 0 where
-  -- "every port closed under the smaller is closed under the greater"
+  -- "Every port closed under the smaller figure is closed under the greater."
   pub closes-more : (p : ℕ) → closedAt (tick (reached n h) block less .table) p ≡ true → closedAt (tick (reached n h) block more .table) p ≡ true
-  -- "under either, the closed ports' demands add up to no more than the figure"
+  -- "Under either, the closed ports' demands add up to no more than that figure"
   pub fits-less : closedSum (tick (reached n h) block less .table) ≤ less
   pub fits-more : closedSum (tick (reached n h) block more .table) ≤ more
   -- "no port outside the forced test state is closed unless, since it last stood in IDLE, it showed a valid signature and gave a class"

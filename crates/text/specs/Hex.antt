@@ -31,7 +31,7 @@ isHex b = ltb (nibbleOf b) 16
 abbrev pub pairOf : ℕ → ℕ → ℕ
 pairOf high low = 16 * nibbleOf high + nibbleOf low
 
--- "Answers are in lower case.": the digit that says a number below 16
+-- docs/CONSOLE.md: "Answers are in lower case."; the digit that says a number below 16
 unfoldable pub glyphOf : ℕ → ℕ
 glyphOf n = cond (ltb n 10) (48 + n) (87 + n)
 

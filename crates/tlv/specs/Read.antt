@@ -22,7 +22,7 @@ cut bytes = ltb (length bytes) 2 || ltb (length bytes) (sizeAt bytes 0)
 unfoldable pub exactlyOne : List ℕ → Bool
 exactlyOne bytes = eqb (length bytes) (sizeAt bytes 0) && (isPower bytes 0 && (eqb (lengthAt bytes 0) 7 || eqb (lengthAt bytes 0) 12))
 
--- "Length 12 adds one octet (7:6 type, 5:4 source, 3:2 .. ignored when read, 1:0 priority) and the requested and allocated values, 16 bits each"
+-- "Length 12 adds one octet (7:6 type, 5:4 source, 3:2 .. ignored when read, 1:0 priority .. and the requested and allocated values, 16 bits each"
 unfoldable pub addedIn : List ℕ → Added
 addedIn bytes =
     record {

@@ -22,7 +22,7 @@ badCodes (Long added) = ltb 3 (added .kind) || (ltb 3 (added .source) || ltb 3 (
 abbrev pub word : ℕ → List ℕ
 word value = value / 256 ∷ value % 256 ∷ []
 
--- "one octet (7:6 type, 5:4 source, 3:2 sent as zero .., 1:0 priority ..) and the requested and allocated values"
+-- "one octet (7:6 type, 5:4 source, 3:2 sent as zero .. 1:0 priority .. and the requested and allocated values"
 abbrev pub addedBytes : Added → List ℕ
 addedBytes a = (64 * a .kind + 16 * a .source + a .priority) ∷ (word (a .requested) ++ word (a .allocated))
 
