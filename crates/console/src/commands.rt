@@ -1,20 +1,20 @@
 // The commands: a line's words to a call of the core. Whatever is not well formed is a bad line, and nothing changes.
 use crate::answers::bad_line;
 use check::same;
+use parts::Bytes;
+use parts::Number;
+use parts::Numbers;
+use parts::bytes_of;
+use parts::count;
+use parts::front;
+use parts::number_of;
+use parts::numbers_of;
+use parts::word;
 use table::form::Answer;
 use table::form::Table;
 use table::form::Told;
-use text::parts::Bytes;
-use text::parts::Number;
-use text::parts::Numbers;
-use text::parts::bytes_of;
-use text::parts::count;
-use text::parts::front;
-use text::parts::number_of;
-use text::parts::numbers_of;
-use text::parts::word;
-use text::written::end;
-use text::written::hex;
+use text::end;
+use text::hex;
 use tlv::fields::Added;
 use tlv::fields::Fields;
 use tlv::fields::Form;
@@ -107,13 +107,13 @@ fn loaded(image: &[u8], table: Table, out: &mut [u8], at: usize) -> Held {
     let loaded = image::load::load(image);
     if loaded.ok {
         let after = loaded.table;
-        let to = text::written::line(out, at, b"ok");
+        let to = text::line(out, at, b"ok");
         return Held {
             table: after,
             at: to,
         };
     }
-    let to = text::written::line(out, at, b"bad image");
+    let to = text::line(out, at, b"bad image");
     Held { table, at: to }
 }
 
@@ -210,7 +210,7 @@ fn short(n: u64) -> u16 {
 fn wrote(fields: Fields, room: &mut [u8], out: &mut [u8], at: usize) -> usize {
     match tlv::write::write(fields, room) {
         Written::Is(_) => {
-            let to = text::written::text(out, at, b"wrote ");
+            let to = text::text(out, at, b"wrote ");
             let past = hex(out, to, room);
             end(out, past)
         }

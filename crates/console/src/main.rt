@@ -5,8 +5,8 @@ mod lines;
 
 use commands::Held;
 use lines::Source;
+use parts::front;
 use table::form::Table;
-use text::parts::front;
 ghost use mathlib.Core.Path.{_≡_};
 ghost use lib.ListN.{length};
 

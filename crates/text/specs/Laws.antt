@@ -14,11 +14,11 @@ use borrow.Author.Tests.{lt-ltb, le-leb, eqb-true, ltb-true, ltb-false}
 use Rattle.lists.specs.Every.{every-of}
 use Rattle.lists.specs.Places.{tabulate, tabulate-at, tabulated, side}
 use Rattle.lists.specs.Table.{all}
-use Rattle.text.specs.Decimal.{isDigit, value, isNumber, numberIn, spelt, decimal, most}
-use Rattle.text.specs.Hex.{nibbleOf, isHex, pairOf, glyphOf, hexOf, bytesIn, bytesOf, roomAfter, took, pairs}
-use Rattle.text.specs.Words.{before, words, some-word}
-use Rattle.text.specs.declared.parts.Bytes.the-variants.{Are}
-use Rattle.text.specs.declared.parts.Number.the-variants.{Is}
+use Rattle.parts.specs.Decimal.{isDigit, value, isNumber, numberIn, spelt, decimal, most}
+use Rattle.parts.specs.Hex.{nibbleOf, isHex, pairOf, glyphOf, hexOf, bytesIn, bytesOf, roomAfter, took, pairs}
+use Rattle.parts.specs.Words.{before, words, some-word}
+use Rattle.parts.specs.declared.Bytes.the-variants.{Are}
+use Rattle.parts.specs.declared.Number.the-variants.{Is}
 
 -- words with a space before each
 unfoldable pub spaced : List (List ℕ) → List ℕ

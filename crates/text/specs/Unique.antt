@@ -5,14 +5,14 @@ use Prim.Native.Nat.{ℕ}
 use mathlib.Core.Path.{_≡_, sym, _∙_}
 use mathlib.Core.List.{List, [], _∷_, _++_}
 use lib.ListN.{length, take}
-use Rattle.text.specs.Decimal.{numberIn, decimal}
-use Rattle.text.specs.Hex.{bytesOf, roomAfter, hexOf}
-use Rattle.text.specs.Numbers.{numbersIn}
+use Rattle.parts.specs.Decimal.{numberIn, decimal}
+use Rattle.parts.specs.Hex.{bytesOf, roomAfter, hexOf}
+use Rattle.parts.specs.Numbers.{numbersIn}
 use Rattle.text.specs.Room.{past, placed}
-use Rattle.text.specs.Words.{words, wordAt}
-use Rattle.text.specs.declared.parts.Bytes.{Bytes}
-use Rattle.text.specs.declared.parts.Number.{Number}
-use Rattle.text.specs.declared.parts.Numbers.{Numbers}
+use Rattle.parts.specs.Words.{words, wordAt}
+use Rattle.parts.specs.declared.Bytes.{Bytes}
+use Rattle.parts.specs.declared.Number.{Number}
+use Rattle.parts.specs.declared.Numbers.{Numbers}
 
 abbrev pub One : (A : Type 0) → (A → Type 0) → Type 0
 One A promise = (r s : A) → promise r → promise s → r ≡ s
@@ -22,17 +22,17 @@ abbrev pub OneWith : (A : Type 0) → (A → List ℕ → Type 0) → Type 0
 OneWith A promise = (r s : A) (a b : List ℕ) → promise r a → promise s b → (r ≡ s) × (a ≡ b)
 
 pub record Unique : Type 0 where
-  pub text-parts-front : (bytes : List ℕ) (n : ℕ) → One (List ℕ) (λ r. r ≡ take n bytes)
-  pub text-parts-count : (line : List ℕ) → One ℕ (λ r. r ≡ length (words line))
-  pub text-parts-word : (line : List ℕ) (k : ℕ) → One (List ℕ) (λ r. r ≡ wordAt line k)
-  pub text-parts-number-of : (word : List ℕ) → One Number (λ r. r ≡ numberIn word)
-  pub text-parts-numbers-of : (line : List ℕ) (many : ℕ) → One Numbers (λ r. r ≡ numbersIn line many)
-  pub text-parts-bytes-of : (word room : List ℕ) → OneWith Bytes (λ r room'. (r ≡ bytesOf word room) × (room' ≡ roomAfter word room))
-  pub text-written-text : (out : List ℕ) (at : ℕ) (bytes : List ℕ) → OneWith ℕ (λ r out'. (r ≡ past out at bytes) × (out' ≡ placed out at bytes))
-  pub text-written-number : (out : List ℕ) (at n : ℕ) → OneWith ℕ (λ r out'. (r ≡ past out at (32 ∷ decimal n)) × (out' ≡ placed out at (32 ∷ decimal n)))
-  pub text-written-hex : (out : List ℕ) (at : ℕ) (bytes : List ℕ) → OneWith ℕ (λ r out'. (r ≡ past out at (hexOf bytes)) × (out' ≡ placed out at (hexOf bytes)))
-  pub text-written-end : (out : List ℕ) (at : ℕ) → OneWith ℕ (λ r out'. (r ≡ past out at (10 ∷ [])) × (out' ≡ placed out at (10 ∷ [])))
-  pub text-written-line : (out : List ℕ) (at : ℕ) (bytes : List ℕ) → OneWith ℕ (λ r out'. (r ≡ past out at (bytes ++ (10 ∷ []))) × (out' ≡ placed out at (bytes ++ (10 ∷ []))))
+  pub parts-front : (bytes : List ℕ) (n : ℕ) → One (List ℕ) (λ r. r ≡ take n bytes)
+  pub parts-count : (line : List ℕ) → One ℕ (λ r. r ≡ length (words line))
+  pub parts-word : (line : List ℕ) (k : ℕ) → One (List ℕ) (λ r. r ≡ wordAt line k)
+  pub parts-number-of : (word : List ℕ) → One Number (λ r. r ≡ numberIn word)
+  pub parts-numbers-of : (line : List ℕ) (many : ℕ) → One Numbers (λ r. r ≡ numbersIn line many)
+  pub parts-bytes-of : (word room : List ℕ) → OneWith Bytes (λ r room'. (r ≡ bytesOf word room) × (room' ≡ roomAfter word room))
+  pub text-text : (out : List ℕ) (at : ℕ) (bytes : List ℕ) → OneWith ℕ (λ r out'. (r ≡ past out at bytes) × (out' ≡ placed out at bytes))
+  pub text-number : (out : List ℕ) (at n : ℕ) → OneWith ℕ (λ r out'. (r ≡ past out at (32 ∷ decimal n)) × (out' ≡ placed out at (32 ∷ decimal n)))
+  pub text-hex : (out : List ℕ) (at : ℕ) (bytes : List ℕ) → OneWith ℕ (λ r out'. (r ≡ past out at (hexOf bytes)) × (out' ≡ placed out at (hexOf bytes)))
+  pub text-end : (out : List ℕ) (at : ℕ) → OneWith ℕ (λ r out'. (r ≡ past out at (10 ∷ [])) × (out' ≡ placed out at (10 ∷ [])))
+  pub text-line : (out : List ℕ) (at : ℕ) (bytes : List ℕ) → OneWith ℕ (λ r out'. (r ≡ past out at (bytes ++ (10 ∷ []))) × (out' ≡ placed out at (bytes ++ (10 ∷ []))))
 
 one : (A : Type 0) (x : A) → One A (λ r. r ≡ x)
 one A x r s p q = p ∙ sym q
@@ -43,15 +43,15 @@ two A x l r s a b p q = (p .0 ∙ sym (q .0), p .1 ∙ sym (q .1))
 pub unique : Unique
 unique =
     record {
-      text-parts-front = λ bytes n. one (List ℕ) _;
-      text-parts-count = λ line. one ℕ _;
-      text-parts-word = λ line k. one (List ℕ) _;
-      text-parts-number-of = λ word. one Number _;
-      text-parts-numbers-of = λ line many. one Numbers _;
-      text-parts-bytes-of = λ word room. two Bytes _ _;
-      text-written-text = λ out at bytes. two ℕ _ _;
-      text-written-number = λ out at n. two ℕ _ _;
-      text-written-hex = λ out at bytes. two ℕ _ _;
-      text-written-end = λ out at. two ℕ _ _;
-      text-written-line = λ out at bytes. two ℕ _ _;
+      parts-front = λ bytes n. one (List ℕ) _;
+      parts-count = λ line. one ℕ _;
+      parts-word = λ line k. one (List ℕ) _;
+      parts-number-of = λ word. one Number _;
+      parts-numbers-of = λ line many. one Numbers _;
+      parts-bytes-of = λ word room. two Bytes _ _;
+      text-text = λ out at bytes. two ℕ _ _;
+      text-number = λ out at n. two ℕ _ _;
+      text-hex = λ out at bytes. two ℕ _ _;
+      text-end = λ out at. two ℕ _ _;
+      text-line = λ out at bytes. two ℕ _ _;
     }
