@@ -13,10 +13,11 @@ use Rattle.words.specs.Status.{noLatches, statusWord}
 use Rattle.words.specs.declared.status.Condition.{Condition}
 use Rattle.words.specs.declared.status.Condition.the-variants.{Disabled as Off, Searching, Delivering, Testing, Faulty}
 use Rattle.port.specs.Form.{withDemand, withLatches}
-use Rattle.port.specs.Closed.{closed}
+use Rattle.port.specs.States.{closed}
 use Rattle.port.specs.declared.form.Port.{Port}
 use Rattle.port.specs.declared.form.State.{State}
 use Rattle.port.specs.declared.form.State.the-variants.{Disabled, Idle, Detecting, Backoff, Classifying, PowerUp, PowerOn, ErrorDelay, TestMode, TestError}
+use Rattle.port.specs.States.{condition, inDisabled, inPowerOn}
 use Rattle.table.specs.declared.form.Table.{Table}
 use Rattle.table.specs.declared.form.Told.{Told}
 use Rattle.table.specs.declared.form.StatusRead.{StatusRead}
@@ -40,18 +41,6 @@ coldStart n = cond (leb 1 n && leb n 48) (done (coldTable n)) (refuse 2 (coldTab
 abbrev pub onPort : {X : Type 0} → (ℕ → Table → X) → (ℕ → Table → X) → Table → ℕ → X
 onPort refusal call t p = cond (wellMade t) (cond (ltb p (t .count)) (call p t) (refusal 2 t)) (refusal 13 t)
 
-abbrev pub inDisabled : State → Bool
-inDisabled Disabled = true
-inDisabled Idle = false
-inDisabled Detecting = false
-inDisabled Backoff = false
-inDisabled Classifying = false
-inDisabled PowerUp = false
-inDisabled PowerOn = false
-inDisabled ErrorDelay = false
-inDisabled TestMode = false
-inDisabled TestError = false
-
 -- two words have the same pair control
 unfoldable pub sameAlternative : ℕ → ℕ → Bool
 sameAlternative v w = eqb (field 2 2 v) (field 2 2 w)
@@ -69,19 +58,6 @@ controlled w p t =
 unfoldable pub writeControl : Table → ℕ → ℕ → Told
 writeControl t p w = onPort refuse (controlled w) t p
 
--- "Condition: 0 in DISABLED, 1 in IDLE, DETECTING, BACKOFF, CLASSIFYING, 2 in POWER_UP, POWER_ON, 3 in TEST_MODE, 4 in ERROR_DELAY, TEST_ERROR."
-abbrev pub condition : State → Condition
-condition Disabled = Off
-condition Idle = Searching
-condition Detecting = Searching
-condition Backoff = Searching
-condition Classifying = Searching
-condition PowerUp = Delivering
-condition PowerOn = Delivering
-condition ErrorDelay = Faulty
-condition TestMode = Testing
-condition TestError = Faulty
-
 unfoldable pub unlatched : Port → Port
 unlatched p = withLatches noLatches p
 
@@ -97,18 +73,6 @@ readStatus t p = onPort refuseStatus statusAt t p
 -- "value 1..38 means demand 40, ..64 means 70, ..129 means 154, ..255 means 300": the budgets of classes 1 to 4
 unfoldable pub levelOf : ℕ → Power
 levelOf v = budgetOf (cond (leb v 38) 1 (cond (leb v 64) 2 (cond (leb v 129) 3 4)))
-
-abbrev pub inPowerOn : State → Bool
-inPowerOn Disabled = false
-inPowerOn Idle = false
-inPowerOn Detecting = false
-inPowerOn Backoff = false
-inPowerOn Classifying = false
-inPowerOn PowerUp = false
-inPowerOn PowerOn = true
-inPowerOn ErrorDelay = false
-inPowerOn TestMode = false
-inPowerOn TestError = false
 
 unfoldable pub demanding : Power → Port → Port
 demanding d p = withDemand d p

@@ -25,7 +25,8 @@ ghost use mathlib.Core.Path.{_≡_};
 ghost use mathlib.Core.Bool.{_||_};
 ghost use Prim.Native.Nat.{_<_, _≤_, _^_};
 ghost use Rattle.power.specs.Power.{sumOf};
-ghost use Rattle.calls.specs.Calls.{coldTable, coldStart, inDisabled, sameAlternative, withControl, controlled, writeControl, condition, unlatched, statusAt, readStatus, levelOf, inPowerOn, demanding, granting, requested, request};
+ghost use Rattle.port.specs.States.{inDisabled, condition, inPowerOn};
+ghost use Rattle.calls.specs.Calls.{coldTable, coldStart, sameAlternative, withControl, controlled, writeControl, unlatched, statusAt, readStatus, levelOf, demanding, granting, requested, request};
 ghost use Rattle.table.specs.Drawn.{draws, closedSum};
 
 const COLD: Port = Port {

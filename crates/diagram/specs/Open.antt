@@ -8,8 +8,8 @@ use Rattle.words.specs.Control.{enableOf, pairOf, isOff, isOn, isForced}
 use Rattle.port.specs.Form.{withCounts, detectionAt, backoffAt, errorDelayAt, powerOnAt, quietly}
 use Rattle.port.specs.Entry.{up, enter}
 use Rattle.diagram.specs.Rules.{isB, detectingEnds, backoffEnds, errorDelayEnds, classifyingEnds, idle, detected, detecting, backoff, errorDelay, classed, classifying, testError}
-use Rattle.port.specs.Closed.{closed}
-use Rattle.diagram.specs.Step.{givesWay, byState, step}
+use Rattle.port.specs.States.{closed, givesWay}
+use Rattle.diagram.specs.Step.{byState, step}
 use Rattle.port.specs.declared.form.Classing.{Classing}
 use Rattle.port.specs.declared.form.Classing.the-variants.{NotDone as NotClassed, Failed, Is as Classed}
 use Rattle.port.specs.declared.form.Detection.{Detection}

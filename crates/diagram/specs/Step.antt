@@ -9,20 +9,8 @@ use Rattle.port.specs.declared.form.Reading.{Reading}
 use Rattle.port.specs.declared.form.Moved.{Moved}
 use Rattle.port.specs.Form.{quietly}
 use Rattle.port.specs.Entry.{enter}
+use Rattle.port.specs.States.{givesWay}
 use Rattle.diagram.specs.Rules.{idle, detecting, backoff, errorDelay, classifying, powerUp, powerOn, testMode, testError}
-
--- "enable 10 sends DETECTING, CLASSIFYING, POWER_UP and POWER_ON to IDLE"
-abbrev pub givesWay : State → Bool
-givesWay Disabled = false
-givesWay Idle = false
-givesWay Detecting = true
-givesWay Backoff = false
-givesWay Classifying = true
-givesWay PowerUp = true
-givesWay PowerOn = true
-givesWay ErrorDelay = false
-givesWay TestMode = false
-givesWay TestError = false
 
 -- "DISABLED goes to IDLE", and the rules of the other states
 unfoldable pub byState : State → Power → Port → Reading → Moved

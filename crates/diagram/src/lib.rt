@@ -16,7 +16,8 @@ use words::enable::is_off;
 ghost use mathlib.Core.Path.{_≡_};
 ghost use mathlib.Core.Bool.{_&&_};
 ghost use Rattle.words.specs.Control.{isForced};
-ghost use Rattle.diagram.specs.Step.{givesWay, byState, step};
+ghost use Rattle.port.specs.States.{givesWay};
+ghost use Rattle.diagram.specs.Step.{byState, step};
 
 // Enable 10 sends these to IDLE first.
 fn gives_way(state: State) -> bool

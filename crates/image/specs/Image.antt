@@ -11,21 +11,9 @@ use Rattle.port.specs.declared.form.Counts.{Counts}
 use Rattle.port.specs.declared.form.Port.{Port}
 use Rattle.port.specs.declared.form.State.{State}
 use Rattle.port.specs.declared.form.State.the-variants.{Disabled, Idle, Detecting, Backoff, Classifying, PowerUp, PowerOn, ErrorDelay, TestMode, TestError}
+use Rattle.port.specs.States.{codeOf}
 use Rattle.table.specs.Form.{portAt}
 use Rattle.table.specs.declared.form.Table.{Table}
-
--- the state, 1 byte. docs/CONSOLE.md: "0 DISABLED, 1 IDLE, 2 DETECTING, 3 BACKOFF, 4 CLASSIFYING, 5 POWER_UP, 6 POWER_ON, 7 ERROR_DELAY, 8 TEST_MODE, 9 TEST_ERROR"
-abbrev pub codeOf : State → ℕ
-codeOf Disabled = 0
-codeOf Idle = 1
-codeOf Detecting = 2
-codeOf Backoff = 3
-codeOf Classifying = 4
-codeOf PowerUp = 5
-codeOf PowerOn = 6
-codeOf ErrorDelay = 7
-codeOf TestMode = 8
-codeOf TestError = 9
 
 -- the latches, 1 byte. docs/CONSOLE.md: "bit 5 denied, 4 valid, 3 invalid, 2 short circuit, 1 overload, 0 load absent"
 unfoldable pub latchByte : Latches → ℕ

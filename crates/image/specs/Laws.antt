@@ -21,7 +21,8 @@ use Rattle.port.specs.declared.form.State.{State}
 use Rattle.port.specs.declared.form.State.the-variants.{Disabled, Idle, Detecting, Backoff, Classifying, PowerUp, PowerOn, ErrorDelay, TestMode, TestError}
 use Rattle.table.specs.Form.{noPort, portAt}
 use Rattle.table.specs.declared.form.Table.{Table}
-use Rattle.image.specs.Image.{codeOf, latchByte, word, portBytes, headBytes, byteAt, imageOf}
+use Rattle.port.specs.States.{codeOf}
+use Rattle.image.specs.Image.{latchByte, word, portBytes, headBytes, byteAt, imageOf}
 use Rattle.image.specs.Load.{stateOf, latchesOf, wordAt, countsIn, portIn, portReads, tableOf, reads, reads-long, loaded}
 
 -- a state's code names it

@@ -8,7 +8,8 @@ ghost use mathlib.Core.Path.{_≡_};
 ghost use Prim.Native.Nat.{_*_, _/_, _%_, _<_, _≤_};
 ghost use lib.ListN.{length};
 ghost use Rattle.lists.specs.Bits.{one};
-ghost use Rattle.image.specs.Image.{codeOf, latchByte, portBytes, headBytes, byteAt, imageOf, stores, roomAfter};
+ghost use Rattle.port.specs.States.{codeOf};
+ghost use Rattle.image.specs.Image.{latchByte, portBytes, headBytes, byteAt, imageOf, stores, roomAfter};
 
 fn code_of(state: State) -> u8
     ensures { λ r. ⌜ r ≡ codeOf state ⌝ }

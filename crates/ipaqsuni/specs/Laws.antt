@@ -18,7 +18,8 @@ use Rattle.reading.specs.Class.{budgetOf}
 use Rattle.words.specs.Control.{refused as refusedWord}
 use Rattle.port.specs.declared.form.Port.{Port}
 use Rattle.table.specs.Form.{portAt, withPort, done, refuse, tells, refuseStatus, refuseTick}
-use Rattle.calls.specs.Calls.{coldPort, coldTable, coldStart, inDisabled, sameAlternative, inPowerOn, levelOf, demanding, controlled, writeControl, statusAt, readStatus, granting, requested, request}
+use Rattle.port.specs.States.{inDisabled, inPowerOn}
+use Rattle.calls.specs.Calls.{coldPort, coldTable, coldStart, sameAlternative, levelOf, demanding, controlled, writeControl, statusAt, readStatus, granting, requested, request}
 use Rattle.table.specs.Drawn.{closedSum}
 use Rattle.tick.specs.Tick.{portAfter, tableAfter, answered as tickAnswered, flagsTaken, tickWith, tick}
 use Rattle.table.specs.WellMade.{wellMade}

@@ -1,13 +1,13 @@
 -- A test that every place below n passes.
 -- Assumes nothing.
-use mathlib.Core.Path.{_≡_, refl, sym, _∙_, ap₂}
-use mathlib.Core.Bool.{Bool, true, false, _&&_}
+use mathlib.Core.Path.{_≡_, refl, sym, _∙_, ap, ap₂}
+use mathlib.Core.Bool.{Bool, true, false, not, _&&_, _||_}
 use mathlib.Core.Logic.{⊎-elim}
 use Prim.Native.Nat.{ℕ, zero, suc, _+_, _<_}
 use native.Mathlib.Nat.{le-refl, le-of-suc-le-suc, not-suc-le-zero, eq-or-lt-of-le}
 use native.Mathlib.Numerals.{add-one}
 use native.Mathlib.Omega.{arith}
-use Rattle.lists.specs.Tests.{and-left, and-right}
+use Rattle.lists.specs.Tests.{and-left, and-right, not-or}
 
 unfoldable pub every : ℕ → (ℕ → Bool) → Bool
 every zero f = true
@@ -45,3 +45,14 @@ pub every-cong : (n : ℕ) (f g : ℕ → Bool) → ((p : ℕ) → p < n → f p
 unfolding every
 every-cong zero f g h = refl
 every-cong (suc n) f g h = ap₂ _&&_ (every-cong n f g (λ p l. h p (omega arith))) (h n (le-refl (suc n)))
+
+-- the test passes at some place below n
+unfoldable pub someBelow : ℕ → (ℕ → Bool) → Bool
+someBelow zero f = false
+someBelow (suc n) f = someBelow n f || f n
+
+-- it passes nowhere exactly if it fails everywhere
+pub nowhere : (n : ℕ) (f : ℕ → Bool) → not (someBelow n f) ≡ every n (λ p. not (f p))
+unfolding someBelow every
+nowhere zero f = refl
+nowhere (suc n) f = not-or (someBelow n f) (f n) ∙ ap (λ b. b && not (f n)) (nowhere n f)

@@ -1,7 +1,7 @@
 -- Laws of tests: what their conjunctions and disjunctions say, and what holds of a choice by one.
 -- Assumes nothing.
 use mathlib.Core.Path.{_≡_, refl, sym, _∙_}
-use mathlib.Core.Bool.{Bool, true, false, cond, _&&_, _||_, false≢true, true≢false}
+use mathlib.Core.Bool.{Bool, true, false, cond, not, _&&_, _||_, false≢true, true≢false}
 use mathlib.Core.Logic.{_⊎_, inl, inr}
 
 -- a test is passed or not
@@ -43,6 +43,10 @@ fails-left false b e = refl
 pub fails-right : (a b : Bool) → (a || b) ≡ false → b ≡ false
 fails-right true b e = absurd (true≢false e)
 fails-right false b e = e
+
+pub not-or : (a b : Bool) → not (a || b) ≡ (not a && not b)
+not-or true b = refl
+not-or false b = refl
 
 module _ {X : Type 0} (P : X → Type 0) where
   -- a choice of two that are right is right

@@ -1,3 +1,3 @@
-pub mod Closed
 pub mod Entry
 pub mod Form
+pub mod States

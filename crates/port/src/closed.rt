@@ -1,7 +1,7 @@
 // Which ports carry 48 volts.
 use crate::form::State;
 ghost use mathlib.Core.Path.{_≡_};
-ghost use Rattle.port.specs.Closed.{closed};
+ghost use Rattle.port.specs.States.{closed};
 
 pub fn is_closed(state: State) -> bool
     ensures { λ r. ⌜ r ≡ closed state ⌝ }

@@ -17,7 +17,7 @@ use Rattle.port.specs.declared.form.Port.{Port}
 use Rattle.port.specs.declared.form.Moved.{Moved}
 use Rattle.port.specs.declared.form.Reading.{Reading}
 use Rattle.diagram.specs.Open.{held}
-use Rattle.port.specs.Closed.{closed}
+use Rattle.port.specs.States.{closed}
 use Rattle.settling.specs.Settle.{urgency, rank, granted, shed, settled}
 use Rattle.diagram.specs.Step.{step}
 

@@ -9,9 +9,10 @@ use Rattle.port.specs.declared.form.State.{State}
 use Rattle.port.specs.declared.form.State.the-variants.{Disabled, Idle, Detecting, Backoff, Classifying, PowerUp, PowerOn, ErrorDelay, TestMode, TestError}
 use Rattle.port.specs.declared.form.Port.{Port}
 use Rattle.port.specs.declared.form.Moved.{Moved}
-use Rattle.port.specs.Closed.{closed}
+use Rattle.port.specs.States.{closed}
 use Rattle.port.specs.Form.{latching, latchDenied}
 use Rattle.port.specs.Entry.{enter}
+use Rattle.port.specs.States.{inTest}
 
 -- "critical, high, then low and unknown alike"
 abbrev pub urgency : Priority → ℕ
@@ -40,19 +41,6 @@ granted PowerOn p = p
 granted ErrorDelay p = p
 granted TestMode p = p
 granted TestError p = p
-
--- "one shed goes to IDLE. A closed port shed goes to IDLE, or from TEST_MODE to TEST_ERROR."
-abbrev pub inTest : State → Bool
-inTest Disabled = false
-inTest Idle = false
-inTest Detecting = false
-inTest Backoff = false
-inTest Classifying = false
-inTest PowerUp = false
-inTest PowerOn = false
-inTest ErrorDelay = false
-inTest TestMode = true
-inTest TestError = false
 
 -- "Each shed port latches 12."
 unfoldable pub shed : Port → Moved

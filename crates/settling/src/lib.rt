@@ -11,8 +11,8 @@ use words::status::Latches;
 ghost use mathlib.Core.Path.{_≡_};
 ghost use Prim.Native.Nat.{_<_};
 ghost use Rattle.settling.specs.Claim.{rankIn, settledAs};
-ghost use Rattle.port.specs.Closed.{closed};
-ghost use Rattle.settling.specs.Settle.{urgency, granted, inTest, shed};
+ghost use Rattle.port.specs.States.{closed, inTest};
+ghost use Rattle.settling.specs.Settle.{urgency, granted, shed};
 
 const DENIED: Latches = Latches {
     denied: true,

@@ -13,8 +13,8 @@ use Rattle.words.specs.Control.{priorityOf}
 use Rattle.words.specs.declared.control.Priority.{Priority}
 use Rattle.words.specs.declared.control.Priority.the-variants.{Unknown, Critical, High, Low}
 use Rattle.port.specs.Entry.{enter}
-use Rattle.port.specs.Closed.{closed}
-use Rattle.settling.specs.Settle.{urgency, rank, granted, inTest, shed}
+use Rattle.port.specs.States.{closed, inTest}
+use Rattle.settling.specs.Settle.{urgency, rank, granted, shed}
 use Rattle.port.specs.declared.form.Moved.{Moved}
 use Rattle.port.specs.declared.form.Port.{Port}
 use Rattle.port.specs.declared.form.State.{State}

@@ -13,6 +13,7 @@ use Rattle.reading.specs.declared.signature.Signature.{Signature}
 use Rattle.reading.specs.declared.signature.Signature.the-variants.{Valid, Invalid, Open}
 use Rattle.port.specs.declared.form.State.{State}
 use Rattle.port.specs.declared.form.State.the-variants.{Disabled, Idle, Detecting, Backoff, Classifying, PowerUp, PowerOn, ErrorDelay, TestMode, TestError}
+use Rattle.port.specs.States.{isIdle}
 use Rattle.calls.specs.Calls.{coldStart, writeControl, readStatus, request}
 use Rattle.table.specs.Form.{portAt}
 use Rattle.tick.specs.Tick.{tick}
@@ -42,18 +43,6 @@ reached n (c ∷ h) = after (reached n h) c
 abbrev pub accepted : Closed → Bool
 accepted (Ports a b k) = true
 accepted (Refused k) = false
-
-abbrev pub isIdle : State → Bool
-isIdle Disabled = false
-isIdle Idle = true
-isIdle Detecting = false
-isIdle Backoff = false
-isIdle Classifying = false
-isIdle PowerUp = false
-isIdle PowerOn = false
-isIdle ErrorDelay = false
-isIdle TestMode = false
-isIdle TestError = false
 
 abbrev pub isValid : Signature → Bool
 isValid Valid = true

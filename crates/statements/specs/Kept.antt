@@ -24,7 +24,7 @@ use Rattle.reading.specs.Sample.{sampleAt}
 use Rattle.words.specs.Control.{refused, pairOf}
 use Rattle.words.specs.declared.control.Pair.{Pair}
 use Rattle.words.specs.declared.control.Pair.the-variants.{Neither, A, B, Both}
-use Rattle.port.specs.Closed.{closed}
+use Rattle.port.specs.States.{closed}
 use Rattle.port.specs.declared.form.Port.{Port}
 use Rattle.table.specs.declared.form.Table.{Table}
 use Rattle.calls.specs.Calls.{coldPort, coldTable, withControl, unlatched, demanding}

@@ -20,7 +20,8 @@ use Rattle.settling.specs.Settle.{settled}
 use Rattle.diagram.specs.Step.{step}
 use Rattle.port.specs.declared.form.Port.{Port}
 use Rattle.port.specs.declared.form.State.{State}
-use Rattle.calls.specs.Calls.{coldPort, coldTable, coldStart, inDisabled, sameAlternative, withControl, controlled, writeControl, unlatched, statusAt, readStatus, levelOf, inPowerOn, demanding, granting, requested, request}
+use Rattle.port.specs.States.{inDisabled, inPowerOn, isIdle}
+use Rattle.calls.specs.Calls.{coldPort, coldTable, coldStart, sameAlternative, withControl, controlled, writeControl, unlatched, statusAt, readStatus, levelOf, demanding, granting, requested, request}
 use Rattle.table.specs.Drawn.{closedSum}
 use Rattle.tick.specs.Digest.{digest}
 use Rattle.table.specs.Form.{noPort, portAt, withPort, done, refuse, tells, refuseStatus, refuseTick}
@@ -33,7 +34,7 @@ use Rattle.table.specs.declared.form.Table.{Table}
 use Rattle.table.specs.declared.form.StatusRead.{StatusRead}
 use Rattle.table.specs.declared.form.Ticked.{Ticked}
 use Rattle.table.specs.declared.form.Told.{Told}
-use Rattle.statements.specs.History.{Call, control, status, requested as asked, ticked, after, reached, accepted, isIdle, Shown, nothing, seen, adds, shown}
+use Rattle.statements.specs.History.{Call, control, status, requested as asked, ticked, after, reached, accepted, Shown, nothing, seen, adds, shown}
 use Rattle.statements.specs.Shows.{Needs, idle-needs, tick-needs, tick-needs-idle}
 
 -- a call that leaves count and states as they were, and the table well-made

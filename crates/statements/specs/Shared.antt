@@ -14,7 +14,7 @@ use Rattle.lists.specs.Total.{total-mono, total-fewer}
 use Rattle.power.specs.Power.{forced}
 use Rattle.power.specs.declared.Power.{Power}
 use Rattle.reading.specs.Sample.{sampleAt}
-use Rattle.port.specs.Closed.{closed}
+use Rattle.port.specs.States.{closed}
 use Rattle.settling.specs.Settle.{granted, shed, settled}
 use Rattle.port.specs.declared.form.Moved.{Moved}
 use Rattle.port.specs.declared.form.Port.{Port}

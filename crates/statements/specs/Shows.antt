@@ -21,8 +21,9 @@ use Rattle.words.specs.Control.{enableOf, pairOf, isOff, isOn, isForced}
 use Rattle.port.specs.Form.{withClass, withDemand, withCounts, detectionAt, backoffAt, errorDelayAt, powerOnAt, noLoadAt, quietly, latching, asking, latchAbsent}
 use Rattle.port.specs.Entry.{up, during, enter}
 use Rattle.diagram.specs.Rules.{isB, idle, detected, detecting, backoff, errorDelay, classed, classifying, stressed, watched, risen, powerUp, powerOn, testMode, testError}
-use Rattle.settling.specs.Settle.{granted, inTest, shed, settled}
-use Rattle.diagram.specs.Step.{givesWay, byState, step}
+use Rattle.port.specs.States.{inTest, givesWay, isIdle}
+use Rattle.settling.specs.Settle.{granted, shed, settled}
+use Rattle.diagram.specs.Step.{byState, step}
 use Rattle.port.specs.declared.form.Classing.{Classing}
 use Rattle.port.specs.declared.form.Classing.the-variants.{NotDone as NotClassed, Failed, Is as Classed}
 use Rattle.port.specs.declared.form.Detection.{Detection}
@@ -33,7 +34,7 @@ use Rattle.port.specs.declared.form.Reading.{Reading}
 use Rattle.port.specs.declared.form.State.{State}
 use Rattle.port.specs.declared.form.State.the-variants.{Disabled, Idle, Detecting, Backoff, Classifying, PowerUp, PowerOn, ErrorDelay, TestMode, TestError}
 use Rattle.tick.specs.Digest.{detectionOf, classingOf, digest}
-use Rattle.statements.specs.History.{Shown, nothing, signature, both, isValid, isClass, isIdle, showsSignature, givesClass, seen}
+use Rattle.statements.specs.History.{Shown, nothing, signature, both, isValid, isClass, showsSignature, givesClass, seen}
 
 -- what a port in a state must have shown
 abbrev pub Needs : State → Shown → Type 0

@@ -15,7 +15,8 @@ use Rattle.power.specs.Power.{tenths, atMost, fits, sumOf, supplyOf}
 use Rattle.power.specs.declared.Supply.the-variants.{Is, TooLarge}
 use Rattle.reading.specs.Class.{budgetOf}
 use Rattle.words.specs.Control.{refused}
-use Rattle.calls.specs.Calls.{coldTable, coldStart, inDisabled, sameAlternative, withControl, controlled, writeControl, statusAt, readStatus, levelOf, inPowerOn, demanding, granting, requested, request}
+use Rattle.port.specs.States.{inDisabled, inPowerOn}
+use Rattle.calls.specs.Calls.{coldTable, coldStart, sameAlternative, withControl, controlled, writeControl, statusAt, readStatus, levelOf, demanding, granting, requested, request}
 use Rattle.table.specs.Drawn.{closedSum}
 use Rattle.table.specs.Form.{portAt, withPort, done, refuse, tells, refuseStatus, refuseTick}
 use Rattle.tick.specs.Tick.{tableAfter, answered, flagsTaken, tickWith, tick}

@@ -15,10 +15,10 @@ use Rattle.power.specs.Power.{tenths, forced}
 use Rattle.power.specs.declared.Power.{Power}
 use Rattle.reading.specs.Sample.{sampleAt}
 use Rattle.words.specs.Control.{pairOf}
-use Rattle.port.specs.Closed.{closed}
+use Rattle.port.specs.States.{closed, inTest}
 use Rattle.port.specs.Entry.{enter}
 use Rattle.port.specs.Form.{latching, latchDenied}
-use Rattle.settling.specs.Settle.{rank, granted, inTest, shed, settled}
+use Rattle.settling.specs.Settle.{rank, granted, shed, settled}
 use Rattle.diagram.specs.Step.{step}
 use Rattle.port.specs.declared.form.Moved.{Moved}
 use Rattle.port.specs.declared.form.Port.{Port}

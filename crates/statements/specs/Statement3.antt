@@ -12,8 +12,7 @@ use lib.Dec.{ltb}
 use borrow.Author.Tests.{ltb-true}
 use Rattle.lists.specs.Tests.{and-left, and-right}
 use Rattle.power.specs.Power.{tenths}
-use Rattle.port.specs.Closed.{closed}
-use Rattle.settling.specs.Settle.{inTest}
+use Rattle.port.specs.States.{closed, inTest}
 use Rattle.port.specs.declared.form.State.{State}
 use Rattle.port.specs.declared.form.State.the-variants.{Disabled, Idle, Detecting, Backoff, Classifying, PowerUp, PowerOn, ErrorDelay, TestMode, TestError}
 use Rattle.table.specs.Drawn.{closedSum}

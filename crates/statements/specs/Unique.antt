@@ -29,7 +29,7 @@ use Rattle.words.specs.declared.status.Condition.{Condition}
 use Rattle.words.specs.declared.status.Latches.{Latches}
 use Rattle.settling.specs.Claim.{rankIn, settledAs}
 use Rattle.quick.specs.Quick.{quickly}
-use Rattle.port.specs.Closed.{closed}
+use Rattle.port.specs.States.{closed}
 use Rattle.port.specs.Entry.{up, during, enter}
 use Rattle.port.specs.Form.{quietly, latching, asking}
 use Rattle.diagram.specs.Step.{step}

@@ -30,7 +30,8 @@ use Rattle.table.specs.Form.{portAt, withPort, done}
 use Rattle.tick.specs.Tick.{movedAt, rankAt, claimAt, keptAt, portAfter, tableAfter, closedAt, flagsTaken, tickWith, answered, tick}
 use Rattle.table.specs.declared.form.Table.{Table}
 use Rattle.table.specs.WellMade.{wellCounts, wellPort, wellMade}
-use Rattle.statements.specs.History.{Call, control, ticked, after, reached, isIdle, showsSignature, givesClass, nothing, signature, both, seen, adds, shown}
+use Rattle.port.specs.States.{isIdle}
+use Rattle.statements.specs.History.{Call, control, ticked, after, reached, showsSignature, givesClass, nothing, signature, both, seen, adds, shown}
 
 -- no flag; a valid signature; class 1
 unfoldable pub quiet : List ℕ

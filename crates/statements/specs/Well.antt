@@ -19,8 +19,9 @@ use Rattle.words.specs.Control.{refused, enableOf, pairOf, isOff, isOn, isForce
 use Rattle.port.specs.Entry.{up, during, enter}
 use Rattle.port.specs.Form.{withClass, withCounts, detectionAt, backoffAt, errorDelayAt, powerOnAt, noLoadAt}
 use Rattle.diagram.specs.Rules.{isB, idle, detected, detecting, backoff, errorDelay, classed, classifying, stressed, watched, risen, powerUp, powerOn, testMode, testError}
-use Rattle.settling.specs.Settle.{granted, shed, settled, inTest}
-use Rattle.diagram.specs.Step.{givesWay, byState, step}
+use Rattle.port.specs.States.{inTest, givesWay}
+use Rattle.settling.specs.Settle.{granted, shed, settled}
+use Rattle.diagram.specs.Step.{byState, step}
 use Rattle.port.specs.declared.form.Classing.{Classing}
 use Rattle.port.specs.declared.form.Classing.the-variants.{NotDone as NotClassed, Failed, Is as Classed}
 use Rattle.port.specs.declared.form.Counts.{Counts}

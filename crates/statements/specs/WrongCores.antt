@@ -21,7 +21,7 @@ use Rattle.words.specs.Control.{enableOf, pairOf, priorityOf, refused}
 use Rattle.words.specs.Status.{noLatches}
 use Rattle.port.specs.Entry.{up, enter}
 use Rattle.diagram.specs.Rules.{classed, classifying}
-use Rattle.port.specs.Closed.{closed}
+use Rattle.port.specs.States.{closed}
 use Rattle.settling.specs.Settle.{rank, granted, shed, settled}
 use Rattle.diagram.specs.Step.{byState, step}
 use Rattle.port.specs.declared.form.Port.{Port}

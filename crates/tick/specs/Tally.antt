@@ -11,7 +11,7 @@ use Rattle.lists.specs.Count.{mask, mask-next, mask-less, mask-below}
 use Rattle.lists.specs.Total.{total, total-next, total-cong}
 use Rattle.power.specs.Power.{sumOf, plus, plus-exact}
 use Rattle.words.specs.Control.{pairOf}
-use Rattle.port.specs.Closed.{closed}
+use Rattle.port.specs.States.{closed}
 use Rattle.port.specs.declared.form.Port.{Port}
 use Rattle.table.specs.declared.form.Table.{Table}
 use Rattle.tick.specs.declared.tally.Tally.{Tally}

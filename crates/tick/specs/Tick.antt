@@ -16,7 +16,7 @@ use Rattle.reading.specs.Sample.{sampleAt, reservedFlags}
 use Rattle.words.specs.Control.{pairOf}
 use Rattle.words.specs.declared.control.Pair.{Pair}
 use Rattle.words.specs.declared.control.Pair.the-variants.{Neither, A, B, Both}
-use Rattle.port.specs.Closed.{closed}
+use Rattle.port.specs.States.{closed}
 use Rattle.settling.specs.Settle.{rank, settled}
 use Rattle.diagram.specs.Step.{step}
 use Rattle.port.specs.declared.form.Moved.{Moved}

@@ -1,0 +1,42 @@
+-- A call's refusals in order, each a number with its condition: the first whose condition holds is given, and otherwise the value.
+-- Assumes nothing.
+use Prim.Native.Nat.{ℕ}
+use mathlib.Core.Path.{_≡_, refl, sym, _∙_, ap}
+use mathlib.Core.Bool.{Bool, true, false, cond}
+use mathlib.Core.List.{List, [], _∷_}
+use Rattle.lists.specs.Tests.{choice-on}
+
+-- document 01's table of numbers: "Given exactly when"
+abbrev pub ladder : {X : Type 0} → List (ℕ × Bool) → (ℕ → X) → X → X
+ladder [] refuse value = value
+ladder (r ∷ rs) refuse value = cond (r .1) (refuse (r .0)) (ladder rs refuse value)
+
+-- no condition holds
+abbrev pub Clear : List (ℕ × Bool) → Type 0
+Clear [] = Unit {0}
+Clear (r ∷ rs) = (r .1 ≡ false) × Clear rs
+
+module _ {X : Type 0} (P : X → Type 0) (refuse : ℕ → X) (value : X) where
+  -- what holds of each refusal, and of the value where no condition holds, holds of the answer
+  pub ladder-holds : (rs : List (ℕ × Bool)) → ((k : ℕ) → P (refuse k)) → (Clear rs → P value) → P (ladder rs refuse value)
+  ladder-holds [] stops goes = goes tt
+  ladder-holds (r ∷ rs) stops goes =
+      choice-on P (r .1) (refuse (r .0)) (ladder rs refuse value)
+      (λ e. stops (r .0))
+      (λ e. ladder-holds rs stops (λ c. goes (e, c)))
+
+-- a part of the answer is that part of the refusal, or of the value
+pub ladder-part : {X Y : Type 0} (part : X → Y) (refuse : ℕ → X) (value : X) (rs : List (ℕ × Bool))
+    → part (ladder rs refuse value) ≡ ladder rs (λ k. part (refuse k)) (part value)
+ladder-part part refuse value [] = refl
+ladder-part part refuse value (r ∷ rs) = go (r .1) (ladder-part part refuse value rs)
+  where
+    go : (b : Bool) → part (ladder rs refuse value) ≡ ladder rs (λ k. part (refuse k)) (part value)
+        → part (cond b (refuse (r .0)) (ladder rs refuse value)) ≡ cond b (part (refuse (r .0))) (ladder rs (λ k. part (refuse k)) (part value))
+    go true e = refl
+    go false e = e
+
+-- the answer where no condition holds
+pub ladder-clear : {X : Type 0} (refuse : ℕ → X) (value : X) (rs : List (ℕ × Bool)) → Clear rs → ladder rs refuse value ≡ value
+ladder-clear refuse value [] c = refl
+ladder-clear refuse value (r ∷ rs) c = ap (λ (b : Bool). cond b (refuse (r .0)) (ladder rs refuse value)) (c .0) ∙ ladder-clear refuse value rs (c .1)
