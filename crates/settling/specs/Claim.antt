@@ -7,7 +7,6 @@ use mathlib.Core.Bool.{Bool, true, false, cond, _&&_, false≢true}
 use native.Mathlib.Omega.{arith}
 use lib.Dec.{leb, ltb}
 use borrow.Author.Tests.{le-leb, lt-leb, lt-ltb}
-use Rattle.power.specs.declared.Power.{Power}
 use Rattle.words.specs.Control.{priorityOf}
 use Rattle.words.specs.declared.control.Priority.{Priority}
 use Rattle.words.specs.declared.control.Priority.the-variants.{Unknown, Critical, High, Low}
@@ -15,26 +14,30 @@ use Rattle.port.specs.declared.form.State.{State}
 use Rattle.port.specs.declared.form.State.the-variants.{Disabled, Idle, Detecting, Backoff, Classifying, PowerUp, PowerOn, ErrorDelay, TestMode, TestError}
 use Rattle.port.specs.declared.form.Port.{Port}
 use Rattle.port.specs.declared.form.Moved.{Moved}
-use Rattle.port.specs.declared.form.Reading.{Reading}
-use Rattle.diagram.specs.Open.{held}
 use Rattle.port.specs.States.{closed}
 use Rattle.settling.specs.Settle.{urgency, rank, granted, shed, settled}
-use Rattle.diagram.specs.Step.{step}
+use Rattle.port.specs.Form.{quietly}
+use Rattle.share.specs.Share.{noClaim}
 
 -- the rank, by the state after the move, the control word and whether the port asks
 unfoldable pub rankIn : State → ℕ → Bool → ℕ
 rankIn now control asks =
     cond (closed now) (urgency (priorityOf control))
     (cond asks (3 + urgency (priorityOf control))
-    6)
+    noClaim)
 
--- what is closed after the move was closed before it
-pub rank-in : (claim : Power) (p : Port) (r : Reading)
-    → rankIn (step claim p r .port .state) (step claim p r .port .control) (step claim p r .asks) ≡ rank (p .state) (step claim p r)
+-- it is the rank, where a move closes no port by itself: what is closed after it was closed before
+pub rank-in : (before : State) (m : Moved) → (closed before ≡ false → closed (m .port .state) ≡ false)
+    → rankIn (m .port .state) (m .port .control) (m .asks) ≡ rank before m
 unfolding rankIn rank
-rank-in claim p r =
-    let m = step claim p r in
-    ap (λ (b : Bool). cond b (urgency (priorityOf (m .port .control))) (cond (m .asks) (3 + urgency (priorityOf (m .port .control))) 6)) (held claim p r)
+rank-in before m opens = go (closed before) refl
+  where
+    u : ℕ
+    u = urgency (priorityOf (m .port .control))
+
+    go : (b : Bool) → closed before ≡ b → cond (closed (m .port .state)) u (cond (m .asks) (3 + u) noClaim) ≡ cond (b && closed (m .port .state)) u (cond (m .asks) (3 + u) noClaim)
+    go true e = refl
+    go false e = simp (opens e)
 
 urgency-small : (u : Priority) → urgency u < 3
 urgency-small Critical = omega arith
@@ -51,12 +54,12 @@ claims-closed now control = go (closed now)
     go true = lt-ltb (urgency (priorityOf control)) 6 (omega (arith, urgency-small (priorityOf control)))
     go false = refl
 
--- the port after the sharing, by the rank of its claim, which tells who asked
-unfoldable pub settledAs : ℕ → Bool → Port → Port
+-- what the sharing makes of a port, by the rank of its claim, which tells who asked
+unfoldable pub settledAs : ℕ → Bool → Port → Moved
 settledAs r kept p =
-    cond (leb 6 r) p
-    (cond kept (cond (leb 3 r) (granted (p .state) p) p)
-    (shed p .port))
+    cond (leb noClaim r) (quietly p)
+    (cond kept (quietly (cond (leb 3 r) (granted (p .state) p) p))
+    (shed p))
 
 -- a closed port is where it would be granted to be
 granted-closed : (s : State) (p : Port) → closed s ≡ true → granted s p ≡ p
@@ -89,7 +92,7 @@ module _ (before : State) (m : Moved) (kept : Bool) where
   unfolding settledAs settled
   asks u h e = simp (lt-leb 6 (3 + u) (omega arith), le-leb 3 (3 + u) (omega arith), e)
 
-  none : Same 6
+  none : Same noClaim
   unfolding settledAs settled
   none = refl
 
@@ -103,7 +106,7 @@ module _ (before : State) (m : Moved) (kept : Bool) where
       small : u < 3
       small = urgency-small (priorityOf (m .port .control))
 
-      go : (b n a : Bool) → closed (m .port .state) ≡ n → m .asks ≡ a → Same (cond (b && n) u (cond a (3 + u) 6))
+      go : (b n a : Bool) → closed (m .port .state) ≡ n → m .asks ≡ a → Same (cond (b && n) u (cond a (3 + u) noClaim))
       go true true a x y = holds u small x
       go true false true x y = asks u small y
       go true false false x y = none

@@ -10,8 +10,9 @@ use Rattle.port.specs.declared.form.State.the-variants.{Disabled, Idle, Detecti
 use Rattle.port.specs.declared.form.Port.{Port}
 use Rattle.port.specs.declared.form.Moved.{Moved}
 use Rattle.port.specs.States.{closed}
-use Rattle.port.specs.Form.{latching, latchDenied}
+use Rattle.port.specs.Form.{quietly, latching, latchDenied}
 use Rattle.port.specs.Entry.{enter}
+use Rattle.share.specs.Share.{noClaim}
 use Rattle.port.specs.States.{inTest}
 
 -- "critical, high, then low and unknown alike"
@@ -21,13 +22,12 @@ urgency High = 1
 urgency Low = 2
 urgency Unknown = 2
 
--- "ports closed before the tick and still in POWER_UP, POWER_ON or TEST_MODE come first, then those asking": ranks 0 to 2 and 3 to 5,
--- and 6 for a port that claims nothing
+-- "ports closed before the tick and still in POWER_UP, POWER_ON or TEST_MODE come first, then those asking": ranks 0 to 2 and 3 to 5
 unfoldable pub rank : State → Moved → ℕ
 rank before m =
     cond (closed before && closed (m .port .state)) (urgency (priorityOf (m .port .control)))
     (cond (m .asks) (3 + urgency (priorityOf (m .port .control)))
-    6)
+    noClaim)
 
 -- "An asker kept enters its state": from IDLE TEST_MODE, from CLASSIFYING POWER_UP
 unfoldable pub granted : State → Port → Port
@@ -42,13 +42,13 @@ granted ErrorDelay p = p
 granted TestMode p = p
 granted TestError p = p
 
--- "Each shed port latches 12."
+-- "one shed goes to IDLE. A closed port shed goes to IDLE, or from TEST_MODE to TEST_ERROR. Each shed port latches 12."
 unfoldable pub shed : Port → Moved
 shed p = latching latchDenied (cond (inTest (p .state)) (enter TestError p) (enter Idle p))
 
--- a port after the sharing: its claim was kept or shed, or it had none
-unfoldable pub settled : ℕ → Bool → Moved → Port
+-- what the sharing makes of a moved port, and what it latched, as a move tells it: the port had no claim, or its claim was kept or shed
+unfoldable pub settled : ℕ → Bool → Moved → Moved
 settled r kept m =
-    cond (leb 6 r) (m .port)
-    (cond kept (cond (m .asks) (granted (m .port .state) (m .port)) (m .port))
-    (shed (m .port) .port))
+    cond (leb noClaim r) (quietly (m .port))
+    (cond kept (quietly (cond (m .asks) (granted (m .port .state) (m .port)) (m .port)))
+    (shed (m .port)))

@@ -2,9 +2,11 @@
 use port::closed::is_closed;
 use port::entry::enter;
 use port::entry::latching;
+use port::entry::quietly;
 use port::form::Moved;
 use port::form::Port;
 use port::form::State;
+use share::NO_CLAIM;
 use words::control::Priority;
 use words::control::priority_of;
 use words::status::Latches;
@@ -31,7 +33,7 @@ fn urgency_of(priority: Priority) -> u8
     }
 }
 
-// The rank of a port's claim, 0 the first; 6 for a port that claims nothing. The state is that after the move: what is closed then was
+// The rank of a port's claim, 0 the first. The state is that after the move: what is closed then was
 // closed before.
 pub fn rank_in(state: State, control: u16, asks: bool) -> u8
     ensures { λ r. ⌜ r ≡ rankIn state control asks ⌝ }
@@ -43,7 +45,7 @@ pub fn rank_in(state: State, control: u16, asks: bool) -> u8
     if asks {
         return 3 + urgency;
     }
-    6
+    NO_CLAIM
 }
 
 fn granted_in(state: State, port: Port) -> Port
@@ -90,20 +92,19 @@ fn shed_port(port: Port) -> Moved
     latching(DENIED, enter(State::Idle, port))
 }
 
-// The port after the sharing, by the rank of its claim and whether that was kept. The rank tells who asked.
-pub fn settled_port(rank: u8, kept: bool, port: Port) -> Port
+// What the sharing makes of a port, by the rank of its claim and whether that was kept. The rank tells who asked.
+pub fn settled_port(rank: u8, kept: bool, port: Port) -> Moved
     ensures { λ r. ⌜ r ≡ settledAs rank kept port ⌝ }
 {
-    if 6 <= rank {
-        return port;
+    if NO_CLAIM <= rank {
+        return quietly(port);
     }
     if !kept {
-        let out = shed_port(port);
-        return out.port;
+        return shed_port(port);
     }
     if 3 <= rank {
         let state = port.state;
-        return granted_in(state, port);
+        return quietly(granted_in(state, port));
     }
-    port
+    quietly(port)
 }

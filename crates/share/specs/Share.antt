@@ -5,13 +5,12 @@ use lib.Dec.{ltb, leb, eqb}
 use Rattle.lists.specs.Total.{total}
 
 -- "ports closed before the tick .. come first, then those asking. Within each: critical, high, then low and unknown alike":
--- two kinds of three ranks
-abbrev pub ranks : ℕ
-ranks = 6
+-- two kinds of three ranks, 0 to 5, and after them the rank of a place that claims nothing
+abbrev pub noClaim : ℕ
+noClaim = 6
 
--- a place whose rank is none of these claims nothing
 unfoldable pub claims : (ℕ → ℕ) → ℕ → Bool
-claims rank p = ltb (rank p) ranks
+claims rank p = ltb (rank p) noClaim
 
 -- q is ranked before p: by the lower rank, "then lower port number"
 unfoldable pub before : (ℕ → ℕ) → ℕ → ℕ → Bool

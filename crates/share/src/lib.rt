@@ -9,10 +9,10 @@ ghost use Rattle.share.specs.Share.{claims as claim, keeps, claimedSum};
 ghost use Rattle.share.specs.Given.{rankOf, demandOf};
 ghost use Rattle.share.specs.Passes.{Small, added, within, slotOf, ofSlot, joined};
 
-// Ports that were closed before those that ask, and within each critical, high, then low and unknown alike.
-pub const RANKS: u8 = 6;
+// Ranks 0 to 5: ports that were closed before those that ask, and within each critical, high, then low and unknown alike. After them:
+pub const NO_CLAIM: u8 = 6;
 
-// For each place its rank, of which 0 comes first, and its demand. A place whose rank is none of the ranks claims nothing.
+// For each place its rank, of which 0 comes first, and its demand. A place with another rank than 0 to 5 claims nothing.
 pub struct Claims {
     pub ranks: [u8; 48],
     pub demands: [Power; 48],
@@ -22,7 +22,7 @@ pub struct Claims {
 fn with_claim(sum: Sum, rank: u8, demand: Power) -> Sum
     ensures { λ r. ⌜ (r ≡ added sum rank demand) × (demand .0 < 2 ^ 16) ⌝ }
 {
-    if rank < RANKS {
+    if rank < NO_CLAIM {
         return sum.plus(demand);
     }
     sum
@@ -47,7 +47,7 @@ fn claimants(claims: Claims) -> [bool; 48]
     let mut kept = [false; 48];
     for p in 0..48 {
         let rank = claims.ranks[p];
-        kept[p] = rank < RANKS;
+        kept[p] = rank < NO_CLAIM;
     }
     kept
 }
@@ -56,10 +56,10 @@ fn claimants(claims: Claims) -> [bool; 48]
 fn slot(rank: u8) -> usize
     ensures { λ r. ⌜ (r ≡ slotOf rank) × (r < 7) ⌝ }
 {
-    if rank < RANKS {
+    if rank < NO_CLAIM {
         return rank as usize;
     }
-    RANKS as usize
+    NO_CLAIM as usize
 }
 
 fn rank_sums(claims: Claims) -> [Sum; 7]
@@ -94,7 +94,7 @@ fn starts(sums: [Sum; 7]) -> [Sum; 7]
 fn within(sum: Sum, rank: u8, supply: Power) -> bool
     ensures { λ r. ⌜ r ≡ within sum rank supply ⌝ }
 {
-    if rank < RANKS {
+    if rank < NO_CLAIM {
         return sum.fits(supply);
     }
     false

@@ -2,45 +2,48 @@
 -- Assumes nothing.
 use Prim.Native.Nat.{ℕ, _*_, _≤_}
 use mathlib.Core.Path.{_≡_, refl, sym, _∙_, ap}
-use mathlib.Core.Bool.{Bool, true, false, cond}
+use mathlib.Core.Bool.{Bool, true, false, cond, not}
 use mathlib.Core.List.{List}
 use native.Mathlib.Omega.{arith}
-use lib.Dec.{leb, eqb}
+use lib.Dec.{ltb, eqb}
 use lib.ListN.{length}
-use borrow.Author.Tests.{eqb-true, leb-true}
-use Rattle.power.specs.Power.{tenths, supplyOf}
-use Rattle.power.specs.declared.Supply.the-variants.{Is, TooLarge}
+use borrow.Author.Tests.{eqb-true, ltb-false}
+use Rattle.lists.specs.Every.{someBelow, nowhere}
+use Rattle.power.specs.Power.{tenths}
+use Rattle.reading.specs.Sample.{sampleAt, reservedFlags}
 use Rattle.table.specs.declared.form.Table.{Table}
 use Rattle.table.specs.declared.form.Ticked.{Ticked}
 use Rattle.table.specs.Form.{refuseTick}
 use Rattle.tick.specs.Passes.{flagsFine, refusalOf}
-use Rattle.tick.specs.Tick.{tableAfter, answered, flagsTaken, tickWith, tick}
+use Rattle.boards.specs.Sharing.{tableAfter}
+use Rattle.boards.specs.Masks.{answered}
+use Rattle.tick.specs.Tick.{movedAt, tick, flagsReserved}
 use Rattle.table.specs.WellMade.{wellMade}
 
 abbrev number : Bool → Bool → Bool → Bool → ℕ
-number w l f s = cond w (cond l (cond f (cond s 0 3) 4) 1) 13
+number w l f s = cond w (cond l (cond f 4 (cond s 0 3)) 1) 13
 
 module _ (t : Table) (block : List ℕ) (figure : ℕ) where
   abbrev refusal : ℕ
   refusal = refusalOf (wellMade t) (t .count) block figure
 
-  -- a tick is answered if nothing is refused, and else refused with that number
-  pub judged : tick t block figure ≡ cond (eqb refusal 0) (answered (tableAfter t block (tenths figure))) (refuseTick refusal t)
-  unfolding tick tickWith supplyOf flagsTaken flagsFine refusalOf
-  judged =
-      ap (λ (x : Ticked). cond (wellMade t) (cond (eqb (length block) (14 * t .count)) x (refuseTick 1 t)) (refuseTick 13 t)) (sym (with (leb figure 60000)))
-      ∙ go (wellMade t) (eqb (length block) (14 * t .count)) (leb figure 60000) (flagsFine (t .count) block)
-    where
-      with : (f : Bool) → cond f (cond (flagsFine (t .count) block) (answered (tableAfter t block (tenths figure))) (refuseTick 3 t)) (refuseTick 4 t) ≡ tickWith (cond f (Is (tenths figure)) TooLarge) t block
-      with true = refl
-      with false = refl
+  abbrev value : Ticked
+  value = answered (tableAfter t (movedAt t block) (tenths figure))
 
+  -- a tick is answered if nothing is refused, and else refused with that number
+  pub judged : tick t block figure ≡ cond (eqb refusal 0) value (refuseTick refusal t)
+  unfolding tick flagsReserved flagsFine refusalOf
+  judged =
+      go (wellMade t) (eqb (length block) (14 * t .count)) (ltb 60000 figure) (someBelow (t .count) (λ p. reservedFlags (sampleAt block (14 * p) .flags)))
+      ∙ ap (λ (s : Bool). cond (eqb (number (wellMade t) (eqb (length block) (14 * t .count)) (ltb 60000 figure) s) 0) value (refuseTick (number (wellMade t) (eqb (length block) (14 * t .count)) (ltb 60000 figure) s) t))
+      (nowhere (t .count) (λ p. reservedFlags (sampleAt block (14 * p) .flags)))
+    where
       go : (w l f s : Bool)
-          → cond w (cond l (cond f (cond s (answered (tableAfter t block (tenths figure))) (refuseTick 3 t)) (refuseTick 4 t)) (refuseTick 1 t)) (refuseTick 13 t)
-          ≡ cond (eqb (number w l f s) 0) (answered (tableAfter t block (tenths figure))) (refuseTick (number w l f s) t)
-      go true true true true = refl
-      go true true true false = refl
-      go true true false s = refl
+          → cond (not w) (refuseTick 13 t) (cond (not l) (refuseTick 1 t) (cond f (refuseTick 4 t) (cond s (refuseTick 3 t) value)))
+          ≡ cond (eqb (number w l f (not s)) 0) value (refuseTick (number w l f (not s)) t)
+      go true true true s = refl
+      go true true false true = refl
+      go true true false false = refl
       go true false f s = refl
       go false l f s = refl
 
@@ -53,10 +56,10 @@ pub record Accepted (well : Bool) (n : ℕ) (block : List ℕ) (figure : ℕ) : 
 pub accepted : (well : Bool) (n : ℕ) (block : List ℕ) (figure : ℕ) → refusalOf well n block figure ≡ 0 → Accepted well n block figure
 unfolding refusalOf
 accepted well n block figure e =
-    go well (eqb (length block) (14 * n)) (leb figure 60000) (flagsFine n block) refl refl refl e
+    go well (eqb (length block) (14 * n)) (ltb 60000 figure) (flagsFine n block) refl refl refl e
   where
-    go : (w l f s : Bool) → well ≡ w → eqb (length block) (14 * n) ≡ l → leb figure 60000 ≡ f → number w l f s ≡ 0 → Accepted well n block figure
-    go true true true s a b c z = record { well-made = a; whole = eqb-true (length block) (14 * n) b; in-range = leb-true figure 60000 c }
-    go true true false s a b c z = absurd (omega arith)
+    go : (w l f s : Bool) → well ≡ w → eqb (length block) (14 * n) ≡ l → ltb 60000 figure ≡ f → number w l f s ≡ 0 → Accepted well n block figure
+    go true true true s a b c z = absurd (omega arith)
+    go true true false s a b c z = record { well-made = a; whole = eqb-true (length block) (14 * n) b; in-range = ltb-false 60000 figure c }
     go true false f s a b c z = absurd (omega arith)
     go false l f s a b c z = absurd (omega arith)

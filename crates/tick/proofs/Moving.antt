@@ -33,7 +33,9 @@ use Rattle.table.specs.Form.{noPort, portAt}
 use Rattle.tick.specs.Passes.{movedTable, askedAll, sharedOut}
 use Rattle.tick.specs.Settling.{quiet-all-is, shared-out-is}
 use Rattle.tick.specs.Tally.{talliedBy, tallyBelow, tallyOf, Tallying, tallying-none, tallying-more, tally-cong, tally-a, tally-b}
-use Rattle.tick.specs.Tick.{movedAt, tableAfter, maskA, maskB, answered}
+use Rattle.boards.specs.Sharing.{tableAfter}
+use Rattle.boards.specs.Masks.{maskA, maskB, answered}
+use Rattle.tick.specs.Tick.{movedAt}
 
 -- the answer of a table whose closed ports have been counted
 pub answered-by : (x : Table) (y : Tally) → x .count ≤ 48 → y ≡ tallyOf x → record { table = x; answer = Ports (y .a) (y .b) (ones (y .a) + ones (y .b)) } ≡ answered x
@@ -137,7 +139,7 @@ module _ (t : Table) (block : List ℕ) where
           ∙ ap (λ (n : ℕ). tallyBelow n (portAt present)) (sym (M .count))
 
       -- where no port asks and what is closed fits, this is the tick
-      pub quiet-tick : quiet ≡ true → fits (tally .drawn) supply ≡ true → present ≡ tableAfter t block supply
+      pub quiet-tick : quiet ≡ true → fits (tally .drawn) supply ≡ true → present ≡ tableAfter t (movedAt t block) supply
       unfolding fits tallyBelow
       quiet-tick q f =
           let drawn : tally .drawn .0 ≡ total (t .count) (λ p. draws (portHere p)) = ap (λ (y : Tally). y .drawn .0) (M .counted .is) in
@@ -145,5 +147,5 @@ module _ (t : Table) (block : List ℕ) where
           ∙ quiet-all-is t block supply few (sym (M .none-asks) ∙ q) (rw drawn at (leb-true (tally .drawn .0) (supply .0) f))
 
       -- and elsewhere what the sharing makes of it
-      pub shared-tick : sharedOut after asked supply ≡ tableAfter t block supply
+      pub shared-tick : sharedOut after asked supply ≡ tableAfter t (movedAt t block) supply
       shared-tick = ap₂ (λ (x : Table) (a : List Bool). sharedOut x a supply) moved-table asked-all ∙ shared-out-is t block supply

@@ -1,5 +1,4 @@
 pub mod Digest
-pub mod Laws
 pub mod Passes
 pub mod Settling
 pub mod Tally

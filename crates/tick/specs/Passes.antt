@@ -13,7 +13,7 @@ use Rattle.power.specs.declared.Power.{Power}
 use Rattle.reading.specs.Sample.{sampleAt, reservedFlags}
 use Rattle.settling.specs.Claim.{rankIn, settledAs}
 use Rattle.share.specs.Given.{rankOf, demandOf}
-use Rattle.share.specs.Share.{keeps}
+use Rattle.share.specs.Share.{noClaim, keeps}
 use Rattle.share.specs.declared.Claims.{Claims}
 use Rattle.table.specs.declared.form.Table.{Table}
 use Rattle.table.specs.Form.{portAt}
@@ -29,7 +29,7 @@ flagsFine n block = every n (λ p. not (reservedFlags (sampleAt block (14 * p) .
 -- the number of the refusal, 0 if nothing is refused
 unfoldable pub refusalOf : Bool → ℕ → List ℕ → ℕ → ℕ
 refusalOf well n block figure =
-    cond well (cond (eqb (length block) (14 * n)) (cond (leb figure 60000) (cond (flagsFine n block) 0 3) 4) 1) 13
+    cond well (cond (eqb (length block) (14 * n)) (cond (ltb 60000 figure) 4 (cond (flagsFine n block) 0 3)) 1) 13
 
 -- ---- the moves
 
@@ -46,7 +46,7 @@ askedAll t block = tabulate 48 (λ p. cond (ltb p (t .count)) (movedAt t block p
 
 -- the rank of each claim; a place past the count has none
 unfoldable pub ranksOf : Table → List Bool → List ℕ
-ranksOf t asked = tabulate 48 (λ p. cond (ltb p (t .count)) (rankIn (portAt t p .state) (portAt t p .control) (getD asked p false)) 6)
+ranksOf t asked = tabulate 48 (λ p. cond (ltb p (t .count)) (rankIn (portAt t p .state) (portAt t p .control) (getD asked p false)) noClaim)
 
 -- and its demand
 unfoldable pub demandsOf : Table → List Power
@@ -56,7 +56,7 @@ demandsOf t = tabulate 48 (λ p. cond (ltb p (t .count)) (portAt t p .demand) ze
 unfoldable pub settledAll : Table → List ℕ → List Bool → Power → Table
 settledAll t ranks kept supply =
     record {
-      ports = tabulate 48 (λ p. cond (ltb p (t .count)) (settledAs (getD ranks p 0) (getD kept p false) (portAt t p)) (portAt t p));
+      ports = tabulate 48 (λ p. cond (ltb p (t .count)) (settledAs (getD ranks p 0) (getD kept p false) (portAt t p) .port) (portAt t p));
       count = t .count;
       supply = supply;
     }

@@ -17,7 +17,8 @@ use Rattle.table.specs.declared.form.Table.{Table}
 use Rattle.tick.specs.declared.tally.Tally.{Tally}
 use Rattle.table.specs.Drawn.{draws}
 use Rattle.table.specs.Form.{portAt}
-use Rattle.tick.specs.Tick.{closedAt, namesA, namesB, maskA, maskB}
+use Rattle.boards.specs.Masks.{namesA, namesB, maskA, maskB}
+use Rattle.table.specs.Drawn.{closedAt}
 
 -- a port that a mask names
 abbrev pub onA : Port → Bool

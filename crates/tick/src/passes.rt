@@ -14,7 +14,7 @@ fn ranks_of(table: Table, asked: [bool; 48]) -> [u8; 48]
     ensures { λ r. ⌜ r ≡ ranksOf table asked ⌝ }
 {
     let n = table.count as usize;
-    let mut ranks = [6u8; 48];
+    let mut ranks = [share::NO_CLAIM; 48];
     let mut i = 0;
     while i < n {
         let port = table.ports[i];
@@ -53,7 +53,8 @@ fn settle_all(mut table: Table, ranks: [u8; 48], kept: [bool; 48], supply: Power
     let mut k = 0;
     while k < n {
         let before = table.ports[k];
-        let port = settled_port(ranks[k], kept[k], before);
+        let settled = settled_port(ranks[k], kept[k], before);
+        let port = settled.port;
         table.ports[k] = port;
         k += 1;
     }

@@ -7,7 +7,7 @@ use words::control::Pair;
 use words::control::pair_of;
 ghost use mathlib.Core.Path.{_≡_};
 ghost use Prim.Native.Nat.{_+_, _≤_, _<_, _^_};
-ghost use Rattle.tick.specs.Tick.{namesA, namesB};
+ghost use Rattle.boards.specs.Masks.{namesA, namesB};
 ghost use Rattle.tick.specs.Tally.{talliedBy, tallyOf};
 
 pub struct Tally {

@@ -11,9 +11,12 @@ unfolding settledAs
 settled-port-spec =
     tie.close
     (tie.spec
-    (λ c. simp (le-leb _ _ (c .if1 .taken)))
     (λ c κs. search needs)
-    (λ c. simp (lt-leb _ _ (c .before .before .before .if1 .left), not-true (c .before .before .before .before .args .kept) (c .before .before .if2 .taken), c .before .shed-port .ensures))
+    (λ c. simp (le-leb _ _ (c .before .if1 .taken), c .quietly .ensures))
     (λ c κs. search needs)
-    (λ c. simp (lt-leb _ _ (c .before .before .before .if1 .left), not-false (c .before .before .before .before .args .kept) (c .before .before .if2 .left), le-leb _ _ (c .before .if3 .taken), c .granted-in .ensures))
-    (λ c. simp (lt-leb _ _ (c .before .before .if1 .left), not-false (c .before .before .before .args .kept) (c .before .if2 .left), lt-leb _ _ (c .if3 .left))))
+    (λ c. simp (lt-leb _ _ (c .before .before .if1 .left), not-true (c .before .before .before .args .kept) (c .before .if2 .taken), c .shed-port .ensures))
+    (λ c κs. search needs)
+    (λ c κs. search needs)
+    (λ c. simp (lt-leb _ _ (c .before .before .before .before .if1 .left), not-false (c .before .before .before .before .before .args .kept) (c .before .before .before .if2 .left), le-leb _ _ (c .before .before .if3 .taken), c .before .granted-in .ensures, c .quietly2 .ensures))
+    (λ c κs. search needs)
+    (λ c. simp (lt-leb _ _ (c .before .before .before .if1 .left), not-false (c .before .before .before .before .args .kept) (c .before .before .if2 .left), lt-leb _ _ (c .before .if3 .left), c .quietly3 .ensures)))

@@ -2,7 +2,7 @@
 -- Assumes nothing.
 use mathlib.Core.Path.{sym, _∙_}
 use borrow.Author.Needs.{needs}
-use borrow.Author.Tests.{eq-eqb, ne-eqb, le-leb, lt-leb, not-true, not-false}
+use borrow.Author.Tests.{eq-eqb, ne-eqb, lt-ltb, le-ltb, not-true, not-false}
 use Rattle.tick.specs.Passes.{refusalOf}
 use Rattle.tick.proofs.refusal.Statement.{statement}
 use Rattle.tick.proofs.refusal.Tie as tie
@@ -16,11 +16,11 @@ refusal-spec =
     (λ c. search needs)
     (λ c. simp (not-false (c .before .before .before .args .well) (c .before .if1 .left), ne-eqb _ _ (c .if2 .taken)))
     (λ c. search needs)
-    (λ c. simp (not-false (c .before .before .before .before .args .well) (c .before .before .if1 .left), eq-eqb _ _ (c .before .if2 .left), lt-leb _ _ (c .if3 .taken)))
+    (λ c. simp (not-false (c .before .before .before .before .args .well) (c .before .before .if1 .left), eq-eqb _ _ (c .before .if2 .left), lt-ltb _ _ (c .if3 .taken)))
     (λ c κs. c .before .if2 .left)
     (λ c.
     let s = c .before .before in
-    simp (not-false (s .before .before .before .before .args .well) (s .before .before .if1 .left), eq-eqb _ _ (s .before .if2 .left), le-leb _ _ (s .if3 .left), sym (c .before .flags-fine .ensures) ∙ c .if4 .taken))
+    simp (not-false (s .before .before .before .before .args .well) (s .before .before .if1 .left), eq-eqb _ _ (s .before .if2 .left), le-ltb _ _ (s .if3 .left), sym (c .before .flags-fine .ensures) ∙ c .if4 .taken))
     (λ c.
     let s = c .before .before in
-    simp (not-false (s .before .before .before .before .args .well) (s .before .before .if1 .left), eq-eqb _ _ (s .before .if2 .left), le-leb _ _ (s .if3 .left), sym (c .before .flags-fine .ensures) ∙ c .if4 .left)))
+    simp (not-false (s .before .before .before .before .args .well) (s .before .before .if1 .left), eq-eqb _ _ (s .before .if2 .left), le-ltb _ _ (s .if3 .left), sym (c .before .flags-fine .ensures) ∙ c .if4 .left)))

@@ -24,10 +24,12 @@ use Rattle.tick.specs.declared.tally.Tally.{Tally}
 use Rattle.tick.specs.Digest.{digest, signsIn}
 use Rattle.table.specs.Form.{noPort, portAt}
 use Rattle.table.specs.Laws.{well-count}
-use Rattle.tick.specs.Laws.{count-after}
+use Rattle.boards.specs.Laws.{count-after}
 use Rattle.tick.specs.Passes.{refusalOf}
 use Rattle.tick.specs.Tally.{tallyOf, below-a, below-b}
-use Rattle.tick.specs.Tick.{movedAt, tableAfter, answered, tick}
+use Rattle.boards.specs.Sharing.{tableAfter}
+use Rattle.boards.specs.Masks.{answered}
+use Rattle.tick.specs.Tick.{movedAt, tick}
 use Rattle.table.specs.WellMade.{wellMade}
 use Rattle.table.proofs.Checking.{Checked, checked-none, checked-more, below-count, in-reach, checked-all}
 use Rattle.tick.proofs.Judging.{judged, Accepted, accepted}
@@ -87,7 +89,7 @@ module _ (c : tie.Else1 Inv-loop μ-loop Inv-loop2 μ-loop2) where
   long : length (old .ports) ≡ 48
   long = sym (length-map (old .ports) _) ∙ start .good .0 .1 .1 .0 .1 .0 .1
 
-  answers : tick old (now (start .args .block)) (start .args .figure) ≡ answered (tableAfter old (now (start .args .block)) (tenths (start .args .figure)))
+  answers : tick old (now (start .args .block)) (start .args .figure) ≡ answered (tableAfter old (movedAt old (now (start .args .block))) (tenths (start .args .figure)))
   answers = judged old (now (start .args .block)) (start .args .figure) ∙ simp (eq-eqb _ _ nothing)
 
 -- ---- the moves
@@ -147,7 +149,7 @@ module _ (c : tie.After-loop2 Inv-loop μ-loop Inv-loop2 μ-loop2) where
 
 -- the table is the tick's, and its closed ports have been counted
 unfoldable Ends : Table → List ℕ → ℕ → Table → Tally → Type 0
-Ends t b figure x y = (x ≡ tableAfter t b (tenths figure)) × (y ≡ tallyOf x)
+Ends t b figure x y = (x ≡ tableAfter t (movedAt t b) (tenths figure)) × (y ≡ tallyOf x)
 
 module _ (c : tie.Joined2 Inv-loop μ-loop Inv-loop2 μ-loop2) where
   abbrev a : tie.After-loop2 Inv-loop μ-loop Inv-loop2 μ-loop2
@@ -173,7 +175,7 @@ module _ (c : tie.Joined2 Inv-loop μ-loop Inv-loop2 μ-loop2) where
 
   few-now : c .if2 .table .count ≤ 48
   unfolding Ends
-  few-now = rw (ends .0) (rw (count-after (old (e a)) (now (start (e a) .args .block)) (tenths figure)) (few (e a)))
+  few-now = rw (ends .0) (rw (count-after (old (e a)) (movedAt (old (e a)) (now (start (e a) .args .block))) (tenths figure)) (few (e a)))
 
 shared-few : (c : tie.After-shared-out Inv-loop μ-loop Inv-loop2 μ-loop2) → c .shared-out .result .count ≤ 48
 shared-few c =
@@ -182,7 +184,7 @@ shared-few c =
     let b = now (start (e a) .args .block) in
     let l = a .before .loop2 in
     let supply = tenths (start (e a) .args .figure) in
-    rw (c .shared-out .ensures ∙ shared-tick t b (few (e a)) (long (e a)) (l .table) (l .asked) (l .quiet) (l .tally) (all a) supply) (rw (count-after t b supply) (few (e a)))
+    rw (c .shared-out .ensures ∙ shared-tick t b (few (e a)) (long (e a)) (l .table) (l .asked) (l .quiet) (l .tally) (all a) supply) (rw (count-after t (movedAt t b) supply) (few (e a)))
 
 answers-so : tie.Need-returns-2 Inv-loop μ-loop Inv-loop2 μ-loop2
 unfolding Ends

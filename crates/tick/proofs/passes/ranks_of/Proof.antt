@@ -9,6 +9,7 @@ use lib.ListN.{getD, replicate}
 use borrow.Author.Needs.{needs}
 use Rattle.lists.specs.Places.{Filled, filled-none, filled-more, filled-over}
 use Rattle.settling.specs.Claim.{rankIn}
+use Rattle.share.specs.Share.{noClaim}
 use Rattle.table.specs.declared.form.Table.{Table}
 use Rattle.table.specs.Form.{portAt}
 use Rattle.tick.specs.Passes.{ranksOf}
@@ -19,7 +20,7 @@ abbrev rankHere : Table → List Bool → ℕ → ℕ
 rankHere t asked p = rankIn (portAt t p .state) (portAt t p .control) (getD asked p false)
 
 abbrev Inv-loop : tie.InvT-loop
-Inv-loop table asked n ranks₀ i₀ ranks i = (i ≤ n) × Filled 0 (rankHere table asked) (replicate 48 6) i ranks
+Inv-loop table asked n ranks₀ i₀ ranks i = (i ≤ n) × Filled 0 (rankHere table asked) (replicate 48 noClaim) i ranks
 
 abbrev μ-loop : tie.MeasureT-loop
 μ-loop table asked n ranks₀ i₀ ranks i = n - i
@@ -43,8 +44,8 @@ ranks-of-spec =
     (λ c.
     let s = c .before .before .before .before in
     let l = c .before .before .before .loop in
-    (omega arith, filled-more 0 (rankHere (s .args .t1) (s .args .t2)) (replicate 48 6) (l .i) (l .ranks) _ (l .inv .1) (omega arith) (c .rank-in .ensures)))
+    (omega arith, filled-more 0 (rankHere (s .args .t1) (s .args .t2)) (replicate 48 noClaim) (l .i) (l .ranks) _ (l .inv .1) (omega arith) (c .rank-in .ensures)))
     (λ c.
     let s = c .before .before in
     let l = c .before .loop in
-    filled-over 0 (rankHere (s .args .t1) (s .args .t2)) 6 48 (s .args .t1 .count) (l .ranks) (rw (le-antisymm (l .inv .0) (c .loop-test .left)) at (l .inv .1))))
+    filled-over 0 (rankHere (s .args .t1) (s .args .t2)) noClaim 48 (s .args .t1 .count) (l .ranks) (rw (le-antisymm (l .inv .0) (c .loop-test .left)) at (l .inv .1))))

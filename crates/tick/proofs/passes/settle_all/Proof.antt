@@ -10,6 +10,7 @@ use lib.ListN.{length, getD, length-map}
 use borrow.Author.Needs.{needs}
 use Rattle.lists.specs.Places.{Filled, filled-none, filled-more, filled-below}
 use Rattle.settling.specs.Claim.{settledAs}
+use Rattle.port.specs.declared.form.Moved.{Moved}
 use Rattle.port.specs.declared.form.Port.{Port}
 use Rattle.table.specs.declared.form.Table.{Table}
 use Rattle.table.specs.Form.{noPort, portAt}
@@ -18,7 +19,7 @@ use Rattle.tick.proofs.passes.settle_all.Statement.{statement}
 use Rattle.tick.proofs.passes.settle_all.Tie as tie
 
 abbrev settling : Table → List ℕ → List Bool → ℕ → Port
-settling t ranks kept p = settledAs (getD ranks p 0) (getD kept p false) (portAt t p)
+settling t ranks kept p = settledAs (getD ranks p 0) (getD kept p false) (portAt t p) .port
 
 abbrev Inv-loop : tie.InvT-loop
 Inv-loop supply table₀ ranks kept n k₀ table k =
@@ -49,11 +50,12 @@ settle-all-spec =
     (λ c. omega arith)
     (λ c. omega arith)
     (λ c.
-    let s = c .before .before .before .before in
-    let l = c .before .before .before .loop in (
+    let s = c .before .before .before .before .before in
+    let l = c .before .before .before .before .loop in (
       omega arith,
-      filled-more noPort (settling (s .args .t1) (s .args .t2) (s .args .t3)) (s .args .t1 .ports) (l .k) (l .table .ports) (c .settled-port .result) (l .inv .1)
-          (omega (arith, long s)) (c .settled-port .ensures ∙ ap (settledAs (getD (s .args .t2) (l .k) 0) (getD (s .args .t3) (l .k) false)) (l .inv .1 .left (l .k) (le-refl (l .k)))),
+      filled-more noPort (settling (s .args .t1) (s .args .t2) (s .args .t3)) (s .args .t1 .ports) (l .k) (l .table .ports) (c .before .settled-port .result .port) (l .inv .1)
+          (omega (arith, long s))
+          (ap (λ (m : Moved). m .port) (c .before .settled-port .ensures ∙ ap (settledAs (getD (s .args .t2) (l .k) 0) (getD (s .args .t3) (l .k) false)) (l .inv .1 .left (l .k) (le-refl (l .k))))),
       l .inv .2,
     ))
     (λ c.

@@ -9,7 +9,7 @@ use borrow.Author.Tests.{not-true, not-false}
 use Rattle.words.specs.Control.{pairOf}
 use Rattle.words.specs.declared.control.Pair.{Pair}
 use Rattle.words.specs.declared.control.Pair.the-variants.{Neither, A, B, Both}
-use Rattle.tick.specs.Tick.{namesA, namesB}
+use Rattle.boards.specs.Masks.{namesA, namesB}
 use Rattle.tick.specs.Tally.{talliedBy}
 use Rattle.tick.proofs.tally.tallied.Statement.{statement}
 use Rattle.tick.proofs.tally.tallied.Tie as tie
