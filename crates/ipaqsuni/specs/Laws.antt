@@ -21,7 +21,9 @@ use Rattle.table.specs.Form.{portAt, withPort, done, refuse, tells, refuseStatu
 use Rattle.port.specs.States.{inDisabled, inPowerOn}
 use Rattle.calls.specs.Calls.{coldPort, coldTable, coldStart, sameAlternative, levelOf, demanding, controlled, writeControl, statusAt, readStatus, granting, requested, request}
 use Rattle.table.specs.Drawn.{closedSum}
-use Rattle.tick.specs.Tick.{portAfter, tableAfter, answered as tickAnswered, flagsTaken, tickWith, tick}
+use Rattle.boards.specs.Sharing.{portAfter, tableAfter}
+use Rattle.boards.specs.Masks.{answered as tickAnswered}
+use Rattle.tick.specs.Tick.{movedAt, tick, flagsReserved}
 use Rattle.table.specs.WellMade.{wellMade}
 use Rattle.table.specs.declared.form.Table.{Table}
 use Rattle.table.specs.declared.form.Told.{Told}
@@ -79,9 +81,9 @@ with-whole : (p : ℕ) (port : Port) (t : Table) → Whole t → Whole (withPort
 unfolding withPort
 with-whole p port t h = length-set (t .ports) p port ∙ h
 
-after-whole : (t : Table) (block : List ℕ) (supply : Power) → Whole (tableAfter t block supply)
+after-whole : (t : Table) (block : List ℕ) (supply : Power) → Whole (tableAfter t (movedAt t block) supply)
 unfolding tableAfter
-after-whole t block supply = length-tabulate 48 (portAfter t block supply)
+after-whole t block supply = length-tabulate 48 (portAfter t (movedAt t block) supply)
 
 loaded-whole : (bytes : List ℕ) → Whole (loaded bytes .table)
 unfolding loaded tableOf
@@ -137,9 +139,9 @@ module _ (t : Table) (h : Whole t) where
       (omega arith)
 
 with-fair : (s : Supply) (t : Table) (block : List ℕ) → FairTick (tickWith s t block)
-unfolding tickWith tickAnswered refuseTick
+unfolding tickAnswered refuseTick
 with-fair TooLarge t block = omega arith
-with-fair (Is supply) t block = choice FairTick (flagsTaken t block) _ _ (after-whole t block supply) (omega arith)
+with-fair (Is supply) t block = choice FairTick (flagsReserved t block) _ _ (after-whole t block supply) (omega arith)
 
 tick-fair : (t : Table) (block : List ℕ) (figure : ℕ) → FairTick (tick t block figure)
 unfolding tick refuseTick

@@ -4,7 +4,7 @@ use Prim.Native.Nat.{ℕ}
 use mathlib.Core.Path.{_≡_, refl, sym, _∙_, ap}
 use mathlib.Core.Bool.{Bool, true, false, cond}
 use mathlib.Core.List.{List, [], _∷_}
-use Rattle.lists.specs.Tests.{choice-on}
+use Rattle.lists.specs.Tests.{choice, choice-on}
 
 -- document 01's table of numbers: "Given exactly when"
 abbrev pub ladder : {X : Type 0} → List (ℕ × Bool) → (ℕ → X) → X → X
@@ -24,6 +24,15 @@ module _ {X : Type 0} (P : X → Type 0) (refuse : ℕ → X) (value : X) where
       choice-on P (r .1) (refuse (r .0)) (ladder rs refuse value)
       (λ e. stops (r .0))
       (λ e. ladder-holds rs stops (λ c. goes (e, c)))
+
+  -- a property that not every number has: it holds of each refusal of the list
+  abbrev pub Each : List (ℕ × Bool) → Type 0
+  Each [] = Unit {0}
+  Each (r ∷ rs) = P (refuse (r .0)) × Each rs
+
+  pub ladder-each : (rs : List (ℕ × Bool)) → Each rs → P value → P (ladder rs refuse value)
+  ladder-each [] each v = v
+  ladder-each (r ∷ rs) each v = choice P (r .1) (refuse (r .0)) (ladder rs refuse value) (each .0) (ladder-each rs (each .1) v)
 
 -- a part of the answer is that part of the refusal, or of the value
 pub ladder-part : {X Y : Type 0} (part : X → Y) (refuse : ℕ → X) (value : X) (rs : List (ℕ × Bool))

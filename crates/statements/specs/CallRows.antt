@@ -23,7 +23,8 @@ use Rattle.port.specs.States.{condition}
 use Rattle.calls.specs.Calls.{coldPort, coldTable, coldStart, sameAlternative, withControl, controlled, writeControl, unlatched, statusAt, readStatus, levelOf, demanding, granting, requested, request}
 use Rattle.table.specs.Drawn.{draws, closedSum}
 use Rattle.table.specs.Form.{zeroCounts, portAt, withPort, done, refuse, tells, refuseStatus, refuseTick}
-use Rattle.tick.specs.Tick.{answered, flagsTaken, tickWith, tick}
+use Rattle.boards.specs.Masks.{answered}
+use Rattle.tick.specs.Tick.{tick, flagsReserved}
 use Rattle.table.specs.WellMade.{wellCounts, wellPort, wellMade}
 use Rattle.table.specs.declared.form.Answer.the-variants.{Done}
 use Rattle.table.specs.declared.form.Status.the-variants.{Word}
@@ -148,7 +149,7 @@ calls =
     ∷ []
 
 pub calls-hold : map (λ (r : Question × Outcome). meaning (r .0)) calls ≡ map (λ (r : Question × Outcome). r .1) calls
-unfolding calls meaning coldStart coldTable done refuse writeControl controlled sameAlternative withControl withPort request requested granting demanding levelOf budgetOf closedSum draws total fits wellMade wellPort wellCounts atMost every portAt refused field above isDemand some readStatus statusAt tells refuseStatus tick tickWith supplyOf flagsTaken reservedFlags sampleAt wordAt refuseTick answered
+unfolding calls meaning coldStart coldTable done refuse writeControl controlled sameAlternative withControl withPort request requested granting demanding levelOf budgetOf closedSum draws total fits wellMade wellPort wellCounts atMost every portAt refused field above isDemand some readStatus statusAt tells refuseStatus tick flagsReserved reservedFlags sampleAt wordAt refuseTick answered
 calls-hold = refl
 
 -- "value 1..38 means demand 40, ..64 means 70, ..129 means 154, ..255 means 300"

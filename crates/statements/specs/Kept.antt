@@ -31,7 +31,10 @@ use Rattle.calls.specs.Calls.{coldPort, coldTable, withControl, unlatched, dema
 use Rattle.tick.specs.Digest.{digest}
 use Rattle.table.specs.Form.{noPort, portAt, withPort}
 use Rattle.table.specs.Laws.{well-count}
-use Rattle.tick.specs.Tick.{movedAt, rankAt, keptAt, portAfter, tableAfter, closedAt, namesA, namesB, maskA, maskB}
+use Rattle.boards.specs.Sharing.{rankAt, keptAt, portAfter, tableAfter}
+use Rattle.boards.specs.Masks.{namesA, namesB, maskA, maskB}
+use Rattle.table.specs.Drawn.{closedAt}
+use Rattle.tick.specs.Tick.{movedAt}
 use Rattle.statements.specs.Well.{Well, well-of, well-test, digest-well, step-well, settled-well}
 use Rattle.table.specs.WellMade.{wellCounts, wellPort, wellMade}
 
@@ -64,22 +67,22 @@ table-test t w =
     simp (w .some-ports, w .few-ports, w .supply, e)
 
 -- ---- the tick
-port-after-well : (t : Table) (block : List ℕ) (supply : Power) → WellTable t → (p : ℕ) → p < t .count → Well (portAfter t block supply p)
+port-after-well : (t : Table) (block : List ℕ) (supply : Power) → WellTable t → (p : ℕ) → p < t .count → Well (portAfter t (movedAt t block) supply p)
 unfolding portAfter movedAt
 port-after-well t block supply w p l =
     simp (lt-ltb p (t .count) l)
-    (settled-well (rankAt t block p) (keptAt t block supply p) (movedAt t block p)
+    (settled-well (rankAt t (movedAt t block) p) (keptAt t (movedAt t block) supply p) (movedAt t block p)
     (step-well (portAt t p) (digest (sampleAt block (14 * p))) (digest-well (sampleAt block (14 * p))) (w .ports p l)))
 
-pub port-after-at : (t : Table) (block : List ℕ) (supply : Power) (p : ℕ) → p < 48 → portAt (tableAfter t block supply) p ≡ portAfter t block supply p
+pub port-after-at : (t : Table) (block : List ℕ) (supply : Power) (p : ℕ) → p < 48 → portAt (tableAfter t (movedAt t block) supply) p ≡ portAfter t (movedAt t block) supply p
 unfolding portAt tableAfter
-port-after-at t block supply p l = getD-tabulate 48 (portAfter t block supply) noPort p l
+port-after-at t block supply p l = getD-tabulate 48 (portAfter t (movedAt t block) supply) noPort p l
 
-pub after-well : (t : Table) (block : List ℕ) (supply : Power) → wellMade t ≡ true → atMost supply highestSupply ≡ true → wellMade (tableAfter t block supply) ≡ true
+pub after-well : (t : Table) (block : List ℕ) (supply : Power) → wellMade t ≡ true → atMost supply highestSupply ≡ true → wellMade (tableAfter t (movedAt t block) supply) ≡ true
 unfolding tableAfter
 after-well t block supply e s =
     let w = table-of t e in
-    table-test (tableAfter t block supply)
+    table-test (tableAfter t (movedAt t block) supply)
     (record {
       some-ports = w .some-ports;
       few-ports = w .few-ports;

@@ -1,13 +1,11 @@
 pub mod CallRows
 pub mod Cases
-pub mod Diagram
 pub mod History
 pub mod Kept
 pub mod Limits
 pub mod MoveRows
 pub mod Reached
 pub mod Rows
-pub mod Shared
 pub mod Shows
 pub mod Statement1
 pub mod Statement2

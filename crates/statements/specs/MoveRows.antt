@@ -334,7 +334,7 @@ abbrev resting : Port → Rests
 resting p = record { state = p .state; demand = p .demand .0; latches = p .latches }
 
 unfoldable pub settling-of : Settles → Rests
-settling-of (settles r kept s asks) = resting (settled r kept (moved s on asks))
+settling-of (settles r kept s asks) = resting (settled r kept (moved s on asks) .port)
 
 abbrev stays : State → Rests
 stays s = record { state = s; demand = 70; latches = noLatches }
@@ -370,7 +370,7 @@ abbrev asker : State → ℕ → Moved
 asker s w = record { port = counting s w before; latched = noLatches; asks = true }
 
 pub entries-hold :
-    settled 3 true (asker Classifying on) .counts ∷ settled 3 true (asker Idle force) .counts ∷ settled 3 false (asker Classifying on) .counts ∷ []
+    settled 3 true (asker Classifying on) .port .counts ∷ settled 3 true (asker Idle force) .port .counts ∷ settled 3 false (asker Classifying on) .port .counts ∷ []
     ≡ counts 11 22 33 44 0 0 77 ∷ counts 11 22 33 44 0 0 77 ∷ before ∷ []
 unfolding settled granted shed enter
 entries-hold = refl

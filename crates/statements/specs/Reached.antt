@@ -27,8 +27,10 @@ use Rattle.tick.specs.Digest.{digest}
 use Rattle.table.specs.Form.{noPort, portAt, withPort, done, refuse, tells, refuseStatus, refuseTick}
 use Rattle.statements.specs.Kept.{after-well, controlled-well, unlatched-well, demanding-well, cold-well, port-after-at}
 use Rattle.table.specs.Laws.{well-count}
-use Rattle.tick.specs.Laws.{count-after}
-use Rattle.tick.specs.Tick.{movedAt, rankAt, keptAt, portAfter, tableAfter, answered, flagsTaken, tickWith, tick}
+use Rattle.boards.specs.Laws.{count-after}
+use Rattle.boards.specs.Sharing.{rankAt, keptAt, portAfter, tableAfter}
+use Rattle.boards.specs.Masks.{answered}
+use Rattle.tick.specs.Tick.{movedAt, tick, flagsReserved}
 use Rattle.table.specs.WellMade.{wellMade}
 use Rattle.table.specs.declared.form.Table.{Table}
 use Rattle.table.specs.declared.form.StatusRead.{StatusRead}
@@ -100,8 +102,8 @@ request-keeps t p v =
 -- an accepted tick: its table is the tick's, its figure is in range, and it came from a well-made table
 pub record Ran (t : Table) (block : List ℕ) (figure : ℕ) (r : Ticked) : Type 0 where
   pub answer : accepted (r .answer) ≡ true
-  pub whole : r ≡ answered (tableAfter t block (tenths figure))
-  pub table : r .table ≡ tableAfter t block (tenths figure)
+  pub whole : r ≡ answered (tableAfter t (movedAt t block) (tenths figure))
+  pub table : r .table ≡ tableAfter t (movedAt t block) (tenths figure)
   pub well : wellMade t ≡ true
   pub figure-in-range : figure ≤ 60000
 
@@ -116,7 +118,7 @@ stopped k t = record { answer = refl; table = refl }
 
 -- a tick runs or is stopped
 pub tick-told : (t : Table) (block : List ℕ) (figure : ℕ) → Stopped t (tick t block figure) ⊎ Ran t block figure (tick t block figure)
-unfolding tick tickWith supplyOf answered
+unfolding tick supplyOf answered
 tick-told t block figure =
     choice-on Told′ (wellMade t) _ _
     (λ m. choice-on Told′ (eqb (length block) (14 * t .count)) _ _
@@ -129,7 +131,7 @@ tick-told t block figure =
 
     figures : (b : Bool) → leb figure 60000 ≡ b → wellMade t ≡ true → Told′ (tickWith (cond b (Is (tenths figure)) TooLarge) t block)
     figures true e m =
-        choice-on Told′ (flagsTaken t block) (answered (tableAfter t block (tenths figure))) (refuseTick 3 t)
+        choice-on Told′ (flagsReserved t block) (answered (tableAfter t (movedAt t block) (tenths figure))) (refuseTick 3 t)
         (λ f. inr (record { answer = refl; whole = refl; table = refl; well = m; figure-in-range = leb-true figure 60000 e }))
         (λ f. inl (stopped 3 t))
     figures false e m = inl (stopped 4 t)
@@ -174,10 +176,10 @@ module _ (t : Table) (m : wellMade t ≡ true) (p : ℕ) (x : Shown) where
       (rw (port-after-at t block (tenths figure) p (omega (arith, well-count t m)))
       (simp (lt-ltb p (t .count) l)
       (choice-on
-      (λ (z : Shown). Needs (settled (rankAt t block p) (keptAt t block (tenths figure) p) (step forced (portAt t p) (digest (sampleAt block (14 * p)))) .state) z)
+      (λ (z : Shown). Needs (settled (rankAt t (movedAt t block) p) (keptAt t (movedAt t block) (tenths figure) p) (step forced (portAt t p) (digest (sampleAt block (14 * p)))) .state) z)
       (isIdle (portAt t p .state)) x (seen (sampleAt block (14 * p)) x)
-      (λ e. tick-needs-idle (sampleAt block (14 * p)) (rankAt t block p) (keptAt t block (tenths figure) p) (portAt t p) x e n)
-      (λ e. tick-needs (sampleAt block (14 * p)) (rankAt t block p) (keptAt t block (tenths figure) p) (portAt t p) x n))))
+      (λ e. tick-needs-idle (sampleAt block (14 * p)) (rankAt t (movedAt t block) p) (keptAt t (movedAt t block) (tenths figure) p) (portAt t p) x e n)
+      (λ e. tick-needs (sampleAt block (14 * p)) (rankAt t (movedAt t block) p) (keptAt t (movedAt t block) (tenths figure) p) (portAt t p) x n))))
 
   call-needs : (c : Call) → p < t .count → Needs (portAt t p .state) x → Needs (portAt (after t c) p .state) (adds t p c x)
   unfolding after adds

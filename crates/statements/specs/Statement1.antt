@@ -19,7 +19,9 @@ use Rattle.port.specs.States.{inDisabled, inPowerOn}
 use Rattle.calls.specs.Calls.{coldTable, coldStart, sameAlternative, withControl, controlled, writeControl, statusAt, readStatus, levelOf, demanding, granting, requested, request}
 use Rattle.table.specs.Drawn.{closedSum}
 use Rattle.table.specs.Form.{portAt, withPort, done, refuse, tells, refuseStatus, refuseTick}
-use Rattle.tick.specs.Tick.{tableAfter, answered, flagsTaken, tickWith, tick}
+use Rattle.boards.specs.Sharing.{tableAfter}
+use Rattle.boards.specs.Masks.{answered}
+use Rattle.tick.specs.Tick.{movedAt, tick, flagsReserved}
 use Rattle.table.specs.WellMade.{wellMade}
 use Rattle.table.specs.declared.form.Answer.{Answer}
 use Rattle.table.specs.declared.form.Answer.the-variants.{Done, Refused}
@@ -114,7 +116,7 @@ tickRefusals t block figure =
     (13, not (wellMade t))
     ∷ (1, not (eqb (length block) (14 * t .count)))
     ∷ (4, not (leb figure 60000))
-    ∷ (3, not (flagsTaken t block))
+    ∷ (3, not (flagsReserved t block))
     ∷ []
 
 -- how many power TLVs the walk passes
@@ -210,14 +212,14 @@ asked-out t p v =
     refl) refl) refl) refl) refl
 
 ticked-out : (t : Table) (block : List ℕ) (figure : ℕ) → tickTold (tick t block figure .answer) ≡ firstOf (tickRefusals t block figure)
-unfolding tick tickWith supplyOf answered refuseTick
+unfolding tick supplyOf answered refuseTick
 ticked-out t block figure =
     on tickOf (wellMade t) _ (refuseTick 13 t) 13 _
     (on tickOf (eqb (length block) (14 * t .count)) _ (refuseTick 1 t) 1 _ (figures (leb figure 60000)) refl)
     refl
   where
-    figures : (b : Bool) → tickOf (tickWith (cond b (Is (tenths figure)) TooLarge) t block) ≡ cond (not b) (number 4) (cond (not (flagsTaken t block)) (number 3) value)
-    figures true = on tickOf (flagsTaken t block) (answered (tableAfter t block (tenths figure))) (refuseTick 3 t) 3 value refl refl
+    figures : (b : Bool) → tickOf (tickWith (cond b (Is (tenths figure)) TooLarge) t block) ≡ cond (not b) (number 4) (cond (not (flagsReserved t block)) (number 3) value)
+    figures true = on tickOf (flagsReserved t block) (answered (tableAfter t (movedAt t block) (tenths figure))) (refuseTick 3 t) 3 value refl refl
     figures false = refl
 
 one-out : (bytes l : List ℕ) → searchTold (theOne bytes l) ≡ cond (several l) (number 8) (cond (none l) (number 7) value)

@@ -10,7 +10,7 @@ use mathlib.Core.Logic.{⊎-elim}
 use native.Mathlib.Omega.{arith}
 use borrow.Author.Tests.{lt-ltb, le-ltb, lt-leb, le-leb}
 use Rattle.lists.specs.Bits.{bit}
-use Rattle.lists.specs.Count.{count, bit-mask, bit-past}
+use Rattle.lists.specs.Count.{count}
 use Rattle.power.specs.Power.{tenths, forced}
 use Rattle.power.specs.declared.Power.{Power}
 use Rattle.reading.specs.Sample.{sampleAt}
@@ -27,10 +27,14 @@ use Rattle.share.specs.Laws.{shed-after, kept-sum-fits, longest}
 use Rattle.share.specs.Share.{claims, before, keeps, keptSum}
 use Rattle.tick.specs.Digest.{digest}
 use Rattle.table.specs.Form.{portAt}
-use Rattle.statements.specs.Kept.{port-after-at, after-well, closed-number}
+use Rattle.boards.specs.MaskLaws.{bits-a, bits-b, past-a, past-b, closed-number}
+use Rattle.statements.specs.Kept.{after-well}
 use Rattle.table.specs.Laws.{well-count}
-use Rattle.tick.specs.Laws.{count-after}
-use Rattle.tick.specs.Tick.{movedAt, rankAt, claimAt, keptAt, portAfter, tableAfter, closedAt, namesA, namesB, maskA, maskB, answered, tick}
+use Rattle.boards.specs.Laws.{count-after, supply-after, rank-here, rank-past, claim-here, port-here, port-past}
+use Rattle.boards.specs.Sharing.{rankAt, claimAt, keptAt, settledAt, tableAfter}
+use Rattle.boards.specs.Masks.{namesA, namesB, maskA, maskB, answered}
+use Rattle.table.specs.Drawn.{closedAt}
+use Rattle.tick.specs.Tick.{movedAt, tick}
 use Rattle.table.specs.WellMade.{wellMade}
 use Rattle.table.specs.declared.form.Closed.{Closed}
 use Rattle.table.specs.declared.form.Closed.the-variants.{Ports}
@@ -50,20 +54,20 @@ moves t block p = step forced (portAt t p) (digest (sampleAt block (14 * p)))
 -- what an accepted tick makes of a table
 pub record Ticks (t : Table) (block : List ℕ) (figure : ℕ) (after : Table) (answer : Closed) : Type 0 where
   -- each port below the count moves by the diagram on its own sample, and settles by whether its claim is kept
-  pub moved : (p : ℕ) → p < t .count → portAt after p ≡ settled (rankAt t block p) (keptAt t block (tenths figure) p) (moves t block p)
+  pub moved : (p : ℕ) → p < t .count → portAt after p ≡ settled (rankAt t (movedAt t block) p) (keptAt t (movedAt t block) (tenths figure) p) (moves t block p) .port
   -- its claim ranks by age, priority and number, and is kept while the sum of the demands down the ranking is at most the figure
-  pub ranked : (p : ℕ) → p < t .count → rankAt t block p ≡ rank (portAt t p .state) (moves t block p)
-  pub shared : (p : ℕ) → keptAt t block (tenths figure) p ≡ keeps 48 (rankAt t block) (λ q. claimAt t block q .0) figure p
-  pub claimed : (p : ℕ) → p < t .count → claimAt t block p ≡ moves t block p .port .demand
-  pub unclaimed : (p : ℕ) → t .count ≤ p → rankAt t block p ≡ 6
+  pub ranked : (p : ℕ) → p < t .count → rankAt t (movedAt t block) p ≡ rank (portAt t p .state) (moves t block p)
+  pub shared : (p : ℕ) → keptAt t (movedAt t block) (tenths figure) p ≡ keeps 48 (rankAt t (movedAt t block)) (λ q. claimAt t (movedAt t block) q .0) figure p
+  pub claimed : (p : ℕ) → p < t .count → claimAt t (movedAt t block) p ≡ moves t block p .port .demand
+  pub unclaimed : (p : ℕ) → t .count ≤ p → rankAt t (movedAt t block) p ≡ 6
   -- "The first that doesn't fit and all after it are shed, smaller ones too."
-  pub sheds : (q p : ℕ) → claims (rankAt t block) q ≡ true → keptAt t block (tenths figure) q ≡ false → before (rankAt t block) q p ≡ true
-      → keptAt t block (tenths figure) p ≡ false
+  pub sheds : (q p : ℕ) → claims (rankAt t (movedAt t block)) q ≡ true → keptAt t (movedAt t block) (tenths figure) q ≡ false → before (rankAt t (movedAt t block)) q p ≡ true
+      → keptAt t (movedAt t block) (tenths figure) p ≡ false
   -- what is kept fits, and is the longest first part of the ranking that does: with the first that is shed it is over the figure
-  pub fits : keptSum 48 (rankAt t block) (λ q. claimAt t block q .0) figure ≤ figure
-  pub no-longer : (q : ℕ) → q < 48 → claims (rankAt t block) q ≡ true → keptAt t block (tenths figure) q ≡ false
-      → ((r : ℕ) → r < 48 → claims (rankAt t block) r ≡ true → before (rankAt t block) r q ≡ true → keptAt t block (tenths figure) r ≡ true)
-      → figure < keptSum 48 (rankAt t block) (λ r. claimAt t block r .0) figure + claimAt t block q .0
+  pub fits : keptSum 48 (rankAt t (movedAt t block)) (λ q. claimAt t (movedAt t block) q .0) figure ≤ figure
+  pub no-longer : (q : ℕ) → q < 48 → claims (rankAt t (movedAt t block)) q ≡ true → keptAt t (movedAt t block) (tenths figure) q ≡ false
+      → ((r : ℕ) → r < 48 → claims (rankAt t (movedAt t block)) r ≡ true → before (rankAt t (movedAt t block)) r q ≡ true → keptAt t (movedAt t block) (tenths figure) r ≡ true)
+      → figure < keptSum 48 (rankAt t (movedAt t block)) (λ r. claimAt t (movedAt t block) r .0) figure + claimAt t (movedAt t block) q .0
   -- places past the count stay as they were
   pub past : (p : ℕ) → p < 48 → t .count ≤ p → portAt after p ≡ portAt t p
   pub same-count : after .count ≡ t .count
@@ -80,14 +84,14 @@ pub record Ticks (t : Table) (block : List ℕ) (figure : ℕ) (after : Table) (
 -- what the sharing does to a port that has moved, case by case; ranks below 6 are claims
 pub record Settles (rank : ℕ) (m : Moved) : Type 0 where
   -- "An asker kept enters its state; one shed goes to IDLE."
-  pub kept-asker : rank < 6 → m .asks ≡ true → settled rank true m ≡ granted (m .port .state) (m .port)
-  pub shed-asker : rank < 6 → m .asks ≡ true → inTest (m .port .state) ≡ false → settled rank false m ≡ latching latchDenied (enter Idle (m .port)) .port
+  pub kept-asker : rank < 6 → m .asks ≡ true → settled rank true m .port ≡ granted (m .port .state) (m .port)
+  pub shed-asker : rank < 6 → m .asks ≡ true → inTest (m .port .state) ≡ false → settled rank false m ≡ latching latchDenied (enter Idle (m .port))
   -- "A closed port shed goes to IDLE, or from TEST_MODE to TEST_ERROR."; kept, it stays
-  pub kept-closed : rank < 6 → m .asks ≡ false → settled rank true m ≡ m .port
-  pub shed-closed : rank < 6 → closed (m .port .state) ≡ true → inTest (m .port .state) ≡ false → settled rank false m ≡ latching latchDenied (enter Idle (m .port)) .port
-  pub shed-in-test : rank < 6 → inTest (m .port .state) ≡ true → settled rank false m ≡ latching latchDenied (enter TestError (m .port)) .port
+  pub kept-closed : rank < 6 → m .asks ≡ false → settled rank true m .port ≡ m .port
+  pub shed-closed : rank < 6 → closed (m .port .state) ≡ true → inTest (m .port .state) ≡ false → settled rank false m ≡ latching latchDenied (enter Idle (m .port))
+  pub shed-in-test : rank < 6 → inTest (m .port .state) ≡ true → settled rank false m ≡ latching latchDenied (enter TestError (m .port))
   -- a port that claims nothing is as its move left it
-  pub no-claim : (kept : Bool) → 6 ≤ rank → settled rank kept m ≡ m .port
+  pub no-claim : (kept : Bool) → 6 ≤ rank → settled rank kept m .port ≡ m .port
 
 pub record Second : Type 0 where
   pub ticks : (t : Table) (block : List ℕ) (figure : ℕ) → accepted (tick t block figure .answer) ≡ true → Ticks t block figure (tick t block figure .table) (tick t block figure .answer)
@@ -100,74 +104,54 @@ pub record Second : Type 0 where
   pub takes : TakenPower
 
 module _ (t : Table) (block : List ℕ) (figure : ℕ) where
-  rank-here : (p : ℕ) → p < t .count → rankAt t block p ≡ rank (portAt t p .state) (moves t block p)
-  unfolding rankAt movedAt
-  rank-here p l = simp (lt-ltb p (t .count) l)
+  abbrev m : ℕ → Moved
+  m = movedAt t block
 
-  rank-past : (p : ℕ) → t .count ≤ p → rankAt t block p ≡ 6
-  unfolding rankAt
-  rank-past p l = simp (le-ltb p (t .count) l)
+  rank-moves : (p : ℕ) → p < t .count → rankAt t m p ≡ rank (portAt t p .state) (moves t block p)
+  unfolding movedAt
+  rank-moves p l = rank-here t m p l
 
-  claim-here : (p : ℕ) → p < t .count → claimAt t block p ≡ moves t block p .port .demand
-  unfolding claimAt movedAt
-  claim-here p l = simp (lt-ltb p (t .count) l)
+  claim-moves : (p : ℕ) → p < t .count → claimAt t m p ≡ moves t block p .port .demand
+  unfolding movedAt
+  claim-moves p l = claim-here t m p l
 
-  kept-here : (p : ℕ) → keptAt t block (tenths figure) p ≡ keeps 48 (rankAt t block) (λ q. claimAt t block q .0) figure p
+  kept-so : (p : ℕ) → keptAt t m (tenths figure) p ≡ keeps 48 (rankAt t m) (λ q. claimAt t m q .0) figure p
   unfolding keptAt
-  kept-here p = refl
+  kept-so p = refl
 
-  sheds-so : (q p : ℕ) → claims (rankAt t block) q ≡ true → keptAt t block (tenths figure) q ≡ false → before (rankAt t block) q p ≡ true → keptAt t block (tenths figure) p ≡ false
+  sheds-so : (q p : ℕ) → claims (rankAt t m) q ≡ true → keptAt t m (tenths figure) q ≡ false → before (rankAt t m) q p ≡ true → keptAt t m (tenths figure) p ≡ false
   unfolding keptAt
-  sheds-so q p c k b = shed-after 48 (rankAt t block) (λ r. claimAt t block r .0) figure q p c k b
+  sheds-so q p c k b = shed-after 48 (rankAt t m) (λ r. claimAt t m r .0) figure q p c k b
 
-  no-longer-so : (q : ℕ) → q < 48 → claims (rankAt t block) q ≡ true → keptAt t block (tenths figure) q ≡ false
-      → ((r : ℕ) → r < 48 → claims (rankAt t block) r ≡ true → before (rankAt t block) r q ≡ true → keptAt t block (tenths figure) r ≡ true)
-      → figure < keptSum 48 (rankAt t block) (λ r. claimAt t block r .0) figure + claimAt t block q .0
+  no-longer-so : (q : ℕ) → q < 48 → claims (rankAt t m) q ≡ true → keptAt t m (tenths figure) q ≡ false
+      → ((r : ℕ) → r < 48 → claims (rankAt t m) r ≡ true → before (rankAt t m) r q ≡ true → keptAt t m (tenths figure) r ≡ true)
+      → figure < keptSum 48 (rankAt t m) (λ r. claimAt t m r .0) figure + claimAt t m q .0
   unfolding keptAt
-  no-longer-so q l c k h = longest 48 (rankAt t block) (λ r. claimAt t block r .0) figure q l c k h
+  no-longer-so q l c k h = longest 48 (rankAt t m) (λ r. claimAt t m r .0) figure q l c k h
 
-  port-here : (p : ℕ) → p < t .count → portAfter t block (tenths figure) p ≡ settled (rankAt t block p) (keptAt t block (tenths figure) p) (moves t block p)
-  unfolding portAfter movedAt
-  port-here p l = simp (lt-ltb p (t .count) l)
-
-  port-past : (p : ℕ) → t .count ≤ p → portAfter t block (tenths figure) p ≡ portAt t p
-  unfolding portAfter
-  port-past p l = simp (le-ltb p (t .count) l)
-
-bits-a : (u : Table) (p : ℕ) → p < 48 → bit p (maskA u) ≡ (closedAt u p && namesA (pairOf (portAt u p .control)))
-unfolding maskA
-bits-a u p l = bit-mask 48 (λ q. closedAt u q && namesA (pairOf (portAt u q .control))) p l
-
-bits-b : (u : Table) (p : ℕ) → p < 48 → bit p (maskB u) ≡ (closedAt u p && namesB (pairOf (portAt u p .control)))
-unfolding maskB
-bits-b u p l = bit-mask 48 (λ q. closedAt u q && namesB (pairOf (portAt u q .control))) p l
-
-past-a : (u : Table) (p : ℕ) → 48 ≤ p → bit p (maskA u) ≡ false
-unfolding maskA
-past-a u p l = bit-past 48 (λ q. closedAt u q && namesA (pairOf (portAt u q .control))) p l
-
-past-b : (u : Table) (p : ℕ) → 48 ≤ p → bit p (maskB u) ≡ false
-unfolding maskB
-past-b u p l = bit-past 48 (λ q. closedAt u q && namesB (pairOf (portAt u q .control))) p l
+  port-moves : t .count ≤ 48 → (p : ℕ) → p < t .count
+      → portAt (tableAfter t m (tenths figure)) p ≡ settled (rankAt t m p) (keptAt t m (tenths figure) p) (moves t block p) .port
+  unfolding movedAt settledAt
+  port-moves few p l = port-here t m (tenths figure) p (omega arith) l
 
 module _ (rank : ℕ) (m : Moved) where
-  to-idle : rank < 6 → inTest (m .port .state) ≡ false → settled rank false m ≡ latching latchDenied (enter Idle (m .port)) .port
+  to-idle : rank < 6 → inTest (m .port .state) ≡ false → settled rank false m ≡ latching latchDenied (enter Idle (m .port))
   unfolding settled shed
   to-idle l e = simp (lt-leb 6 rank l, e)
 
-  to-test-error : rank < 6 → inTest (m .port .state) ≡ true → settled rank false m ≡ latching latchDenied (enter TestError (m .port)) .port
+  to-test-error : rank < 6 → inTest (m .port .state) ≡ true → settled rank false m ≡ latching latchDenied (enter TestError (m .port))
   unfolding settled shed
   to-test-error l e = simp (lt-leb 6 rank l, e)
 
-  enters : rank < 6 → m .asks ≡ true → settled rank true m ≡ granted (m .port .state) (m .port)
+  enters : rank < 6 → m .asks ≡ true → settled rank true m .port ≡ granted (m .port .state) (m .port)
   unfolding settled
   enters l e = simp (lt-leb 6 rank l, e)
 
-  stays : rank < 6 → m .asks ≡ false → settled rank true m ≡ m .port
+  stays : rank < 6 → m .asks ≡ false → settled rank true m .port ≡ m .port
   unfolding settled
   stays l e = simp (lt-leb 6 rank l, e)
 
-  left-alone : (kept : Bool) → 6 ≤ rank → settled rank kept m ≡ m .port
+  left-alone : (kept : Bool) → 6 ≤ rank → settled rank kept m .port ≡ m .port
   unfolding settled
   left-alone kept l = simp (le-leb 6 rank l)
 
@@ -178,29 +162,26 @@ answered-table : (u : Table) → answered u .table ≡ u
 unfolding answered
 answered-table u = refl
 
-supply-after : (t : Table) (block : List ℕ) (supply : Power) → tableAfter t block supply .supply ≡ supply
-unfolding tableAfter
-supply-after t block supply = refl
-
 -- what a tick that ran leaves
 ran-ticks : (t : Table) (block : List ℕ) (figure : ℕ) → wellMade t ≡ true → figure ≤ 60000
-    → Ticks t block figure (tableAfter t block (tenths figure)) (answered (tableAfter t block (tenths figure)) .answer)
+    → Ticks t block figure (tableAfter t (movedAt t block) (tenths figure)) (answered (tableAfter t (movedAt t block) (tenths figure)) .answer)
 unfolding answered
 ran-ticks t block figure m f =
-    let u = tableAfter t block (tenths figure) in
+    let u = tableAfter t (movedAt t block) (tenths figure) in
     let w = after-well t block (tenths figure) m (in-range figure f) in
+    let x = movedAt t block in
     record {
-      moved = λ p l. port-after-at t block (tenths figure) p (omega (arith, well-count t m)) ∙ port-here t block figure p l;
-      ranked = rank-here t block figure;
-      shared = kept-here t block figure;
-      claimed = claim-here t block figure;
-      unclaimed = rank-past t block figure;
+      moved = port-moves t block figure (well-count t m);
+      ranked = rank-moves t block figure;
+      shared = kept-so t block figure;
+      claimed = claim-moves t block figure;
+      unclaimed = rank-past t x;
       sheds = sheds-so t block figure;
-      fits = kept-sum-fits 48 (rankAt t block) (λ q. claimAt t block q .0) figure;
+      fits = kept-sum-fits 48 (rankAt t x) (λ q. claimAt t x q .0) figure;
       no-longer = no-longer-so t block figure;
-      past = λ p l g. port-after-at t block (tenths figure) p l ∙ port-past t block figure p g;
-      same-count = count-after t block (tenths figure);
-      stored = supply-after t block (tenths figure);
+      past = port-past t x (tenths figure);
+      same-count = count-after t x (tenths figure);
+      stored = supply-after t x (tenths figure);
       answers = ap (Ports (maskA u) (maskB u)) (closed-number u w);
       bit-a = bits-a u;
       bit-b = bits-b u;
@@ -216,8 +197,8 @@ ticks-so t block figure e =
     subst (λ (r : Ticked). Ticks t block figure (r .table) (r .answer)) (sym (x .whole)) (answered-ticks (x .well) (x .figure-in-range)))
     (tick-told t block figure)
   where
-    answered-ticks : wellMade t ≡ true → figure ≤ 60000 → Ticks t block figure (answered (tableAfter t block (tenths figure)) .table) (answered (tableAfter t block (tenths figure)) .answer)
-    answered-ticks m f = subst (λ (u : Table). Ticks t block figure u (answered (tableAfter t block (tenths figure)) .answer)) (sym (answered-table (tableAfter t block (tenths figure)))) (ran-ticks t block figure m f)
+    answered-ticks : wellMade t ≡ true → figure ≤ 60000 → Ticks t block figure (answered (tableAfter t (movedAt t block) (tenths figure)) .table) (answered (tableAfter t (movedAt t block) (tenths figure)) .answer)
+    answered-ticks m f = subst (λ (u : Table). Ticks t block figure u (answered (tableAfter t (movedAt t block) (tenths figure)) .answer)) (sym (answered-table (tableAfter t (movedAt t block) (tenths figure)))) (ran-ticks t block figure m f)
 
 pub statement-2 : Second
 statement-2 = record { ticks = ticks-so; settles = settles-so; reads-back = written-reads; rewrites = read-rewrites; finds = found-power; takes = taken-power }

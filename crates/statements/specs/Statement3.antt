@@ -15,14 +15,16 @@ use Rattle.power.specs.Power.{tenths}
 use Rattle.port.specs.States.{closed, inTest}
 use Rattle.port.specs.declared.form.State.{State}
 use Rattle.port.specs.declared.form.State.the-variants.{Disabled, Idle, Detecting, Backoff, Classifying, PowerUp, PowerOn, ErrorDelay, TestMode, TestError}
-use Rattle.table.specs.Drawn.{closedSum}
+use Rattle.table.specs.Drawn.{closedSum, closedAt}
 use Rattle.table.specs.Form.{portAt}
 use Rattle.table.specs.Laws.{well-count}
-use Rattle.tick.specs.Tick.{closedAt, tableAfter, tick}
+use Rattle.boards.specs.Sharing.{tableAfter}
+use Rattle.tick.specs.Tick.{movedAt, tick}
 use Rattle.table.specs.declared.form.Table.{Table}
 use Rattle.statements.specs.History.{Call, ticked, after, reached, accepted, Shown, nothing, signature, both, shown}
 use Rattle.statements.specs.Reached.{Stopped, Ran, tick-told, reached-well, reached-needs}
-use Rattle.statements.specs.Shared.{more-closes, closed-fits}
+use Rattle.boards.specs.Laws.{more-closes, closed-fits}
+use Rattle.tick.specs.Settling.{opens}
 use Rattle.statements.specs.Shows.{Needs}
 
 -- what is claimed of a history h from a cold start of n ports, a block, and two figures
@@ -65,7 +67,7 @@ closed-has-shown n a b h p c f =
     (reached-needs n a b h p (ltb-true p (reached n h .count) (and-left (ltb p (reached n h .count)) (closed (portAt (reached n h) p .state)) c)))
 
 -- an accepted tick's table
-ran : (t : Table) (block : List ℕ) (figure : ℕ) → accepted (tick t block figure .answer) ≡ true → tick t block figure .table ≡ tableAfter t block (tenths figure)
+ran : (t : Table) (block : List ℕ) (figure : ℕ) → accepted (tick t block figure .answer) ≡ true → tick t block figure .table ≡ tableAfter t (movedAt t block) (tenths figure)
 ran t block figure e =
     ⊎-elim
     (λ (x : Stopped t (tick t block figure)). absurd (false≢true (sym (x .answer) ∙ e)))
@@ -82,9 +84,9 @@ statement-3 n a b h block less more le e f =
     let l = ran t block less e in
     let m = ran t block more f in
     record {
-      closes-more = λ p c. subst (λ (u : Table). closedAt u p ≡ true) (sym m) (more-closes t block few (tenths less) (tenths more) le p (subst (λ (u : Table). closedAt u p ≡ true) l c));
-      fits-less = subst (λ (u : Table). closedSum u ≤ less) (sym l) (closed-fits t block few (tenths less));
-      fits-more = subst (λ (u : Table). closedSum u ≤ more) (sym m) (closed-fits t block few (tenths more));
+      closes-more = λ p c. subst (λ (u : Table). closedAt u p ≡ true) (sym m) (more-closes t (movedAt t block) few (tenths less) (tenths more) le p (subst (λ (u : Table). closedAt u p ≡ true) l c));
+      fits-less = subst (λ (u : Table). closedSum u ≤ less) (sym l) (closed-fits t (movedAt t block) few (λ p l. opens t block p) (tenths less));
+      fits-more = subst (λ (u : Table). closedSum u ≤ more) (sym m) (closed-fits t (movedAt t block) few (λ p l. opens t block p) (tenths more));
       shown-less = closed-has-shown n a b (ticked block less ∷ h);
       shown-more = closed-has-shown n a b (ticked block more ∷ h);
     }

@@ -113,7 +113,7 @@ pub record Unique : Type 0 where
   pub port-entry-asking : (port : Port) → One Moved (λ r. r ≡ asking port)
   pub diagram-step : (claim : Power) (p : Port) (reading : Reading) → One Moved (λ r. r ≡ step claim p reading)
   pub settling-rank-in : (state : State) (control : ℕ) (asks : Bool) → One ℕ (λ r. r ≡ rankIn state control asks)
-  pub settling-settled-port : (rank : ℕ) (kept : Bool) (port : Port) → One Port (λ r. r ≡ settledAs rank kept port)
+  pub settling-settled-port : (rank : ℕ) (kept : Bool) (port : Port) → One Moved (λ r. r ≡ settledAs rank kept port)
   pub quick-quick : (port : Port) (signs : Signs) → One Glance (λ r. r ≡ quickly port signs)
   pub share-kept : (claims : Claims) (s : Power) → One (List Bool) (λ r. r ≡ tabulate 48 (keeps 48 (rankOf claims) (demandOf claims) (s .0)))
   pub table-well-made-well-port : (port : Port) → One Bool (λ r. r ≡ wellPort port)
@@ -182,7 +182,7 @@ unique =
       port-entry-asking = λ port. one Moved (asking port);
       diagram-step = λ claim p reading. one Moved (step claim p reading);
       settling-rank-in = λ state control asks. one ℕ (rankIn state control asks);
-      settling-settled-port = λ rank kept port. one Port (settledAs rank kept port);
+      settling-settled-port = λ rank kept port. one Moved (settledAs rank kept port);
       quick-quick = λ port signs. one Glance (quickly port signs);
       share-kept = λ claims s. one (List Bool) (tabulate 48 (keeps 48 (rankOf claims) (demandOf claims) (s .0)));
       table-well-made-well-port = λ port. one Bool (wellPort port);

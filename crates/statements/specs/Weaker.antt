@@ -24,10 +24,12 @@ use Rattle.settling.specs.Settle.{rank, granted, shed, settled}
 use Rattle.diagram.specs.Step.{byState, step}
 use Rattle.share.specs.Share.{claims, before, met, sumWhere, down, keeps}
 use Rattle.calls.specs.Calls.{coldTable, coldStart, writeControl, controlled, withControl}
-use Rattle.table.specs.Drawn.{draws, closedSum}
+use Rattle.table.specs.Drawn.{draws, closedSum, closedAt}
 use Rattle.tick.specs.Digest.{digest}
 use Rattle.table.specs.Form.{portAt, withPort, done}
-use Rattle.tick.specs.Tick.{movedAt, rankAt, claimAt, keptAt, portAfter, tableAfter, closedAt, flagsTaken, tickWith, answered, tick}
+use Rattle.boards.specs.Sharing.{rankAt, claimAt, keptAt, portAfter, tableAfter}
+use Rattle.boards.specs.Masks.{answered}
+use Rattle.tick.specs.Tick.{movedAt, tick, flagsReserved}
 use Rattle.table.specs.declared.form.Table.{Table}
 use Rattle.table.specs.WellMade.{wellCounts, wellPort, wellMade}
 use Rattle.port.specs.States.{isIdle}
@@ -66,7 +68,7 @@ pub record Facts : Type 0 where
   pub too-early : shown 1 0 (ticked signs 154 ∷ ticked quiet 154 ∷ control 0 0x0005 ∷ []) ≡ nothing
 
 pub facts : Facts
-unfolding quiet signs gives signed reached after shown adds seen showsSignature givesClass coldStart coldTable done writeControl controlled withControl withPort wellMade atMost every portAt wellPort wellCounts refused field above isDemand some flagsTaken reservedFlags sampleAt wordAt tick tickWith supplyOf answered tableAfter tabulate portAfter digest flagsOf bit signatureOf outside byDifferences classOfTwo isFour classOf budgetOf step byState enableOf pairOf up idle detected detecting classifying classed rankAt movedAt rank priorityOf keptAt claimAt keeps claims down sumWhere total met before settled granted enter shed closedSum draws closedAt
+unfolding quiet signs gives signed reached after shown adds seen showsSignature givesClass coldStart coldTable done writeControl controlled withControl withPort wellMade atMost every portAt wellPort wellCounts refused field above isDemand some flagsReserved reservedFlags sampleAt wordAt tick answered tableAfter tabulate portAfter digest flagsOf bit signatureOf outside byDifferences classOfTwo isFour classOf budgetOf step byState enableOf pairOf up idle detected detecting classifying classed rankAt movedAt rank priorityOf keptAt claimAt keeps claims down sumWhere total met before settled granted enter shed closedSum draws closedAt
 facts = record { waits = refl; closes = refl; shows-both = refl; adds-up = refl; remembers = refl; opens = refl; forgets = refl; too-early = refl }
 
 -- the masks compared the other way round: false of our core

@@ -31,7 +31,10 @@ use Rattle.calls.specs.Calls.{coldPort}
 use Rattle.tick.specs.Digest.{digest}
 use Rattle.table.specs.Form.{portAt, zeroCounts}
 use Rattle.statements.specs.Kept.{closed-number}
-use Rattle.tick.specs.Tick.{movedAt, rankAt, claimAt, keptAt, closedAt, namesA, flagsTaken}
+use Rattle.boards.specs.Sharing.{rankAt, claimAt, keptAt}
+use Rattle.boards.specs.Masks.{namesA}
+use Rattle.table.specs.Drawn.{closedAt}
+use Rattle.tick.specs.Tick.{movedAt, flagsReserved}
 use Rattle.table.specs.WellMade.{wellCounts, wellPort, wellMade}
 use Rattle.table.specs.declared.form.Closed.{Closed}
 use Rattle.table.specs.declared.form.Closed.the-variants.{Ports, Refused}
@@ -70,7 +73,7 @@ numberIn (Refused k) = 0
 
 -- "a core that refuses always (number table)": by the first statement this tick is answered
 answered-here : firstOf (tickRefusals two both 80) ≡ value
-unfolding two both wellMade atMost every portAt wellPort wellCounts refused field above isDemand some flagsTaken reservedFlags sampleAt wordAt
+unfolding two both wellMade atMost every portAt wellPort wellCounts refused field above isDemand some flagsReserved reservedFlags sampleAt wordAt
 answered-here = refl
 
 pub refuses-always : (k : ℕ) → number k ≡ firstOf (tickRefusals two both 80) → ⊥
@@ -78,7 +81,7 @@ refuses-always k e = false≢true (ap isValue (e ∙ answered-here))
 
 -- where a port of this table settles by the second statement
 abbrev settles : ℕ → ℕ → Port
-settles figure p = settled (rankAt two both p) (keptAt two both (tenths figure) p) (moves two both p)
+settles figure p = settled (rankAt two (movedAt two both) p) (keptAt two (movedAt two both) (tenths figure) p) (moves two both p) .port
 
 -- both were open, both are closed under 8.0 W, and the first is open again with nothing to share
 record Here : Type 0 where
