@@ -7,7 +7,7 @@ use lib.ListN.{getD}
 use Rattle.power.specs.Power.{sumOf, plus, join, fits}
 use Rattle.power.specs.declared.Power.{Power}
 use Rattle.power.specs.declared.Sum.{Sum}
-use Rattle.share.specs.Share.{ranks, sumWhere}
+use Rattle.share.specs.Share.{noClaim, sumWhere}
 
 -- each demand is a power's number, so that no sum over the places reaches the end of its type
 abbrev pub Small : (ℕ → ℕ) → Type 0
@@ -15,15 +15,15 @@ Small demand = (p : ℕ) → p < 48 → demand p < 2 ^ 16
 
 -- a claim's demand is added, and no other
 unfoldable pub added : Sum → ℕ → Power → Sum
-added s rank d = cond (ltb rank ranks) (plus s d) s
+added s rank d = cond (ltb rank noClaim) (plus s d) s
 
 -- a place is kept if it claims and its sum is within the supply
 unfoldable pub within : Sum → ℕ → Power → Bool
-within s rank supply = ltb rank ranks && fits s supply
+within s rank supply = ltb rank noClaim && fits s supply
 
 -- the place of a rank's sum: what is no claim has the last
 unfoldable pub slotOf : ℕ → ℕ
-slotOf rank = cond (ltb rank ranks) rank ranks
+slotOf rank = cond (ltb rank noClaim) rank noClaim
 
 -- the demands of slot k among the places below n
 unfoldable pub ofSlot : ℕ → (ℕ → ℕ) → (ℕ → ℕ) → ℕ → ℕ

@@ -5,13 +5,13 @@ use lib.Dec.{ltb, leb, eqb}
 use Rattle.lists.specs.Total.{total}
 
 -- "ports closed before the tick .. come first, then those asking. Within each: critical, high, then low and unknown alike":
--- two kinds of three ranks
-abbrev pub ranks : ℕ
-ranks = 6
+-- two kinds of three ranks, 0 to 5, and one more for a place that claims nothing
+abbrev pub noClaim : ℕ
+noClaim = 6
 
--- a place whose rank is none of these claims nothing
+-- a place claims if its rank is below that
 unfoldable pub claims : (ℕ → ℕ) → ℕ → Bool
-claims rank p = ltb (rank p) ranks
+claims rank p = ltb (rank p) noClaim
 
 -- q is ranked before p: by the lower rank, "then lower port number"
 unfoldable pub before : (ℕ → ℕ) → ℕ → ℕ → Bool
@@ -30,7 +30,8 @@ unfoldable pub down : ℕ → (ℕ → ℕ) → (ℕ → ℕ) → ℕ → ℕ
 down n rank demand p = sumWhere n demand (met rank p)
 
 -- "claims are kept while the sum of demands is at most the supply. The first that doesn't fit and all after it are shed,
--- smaller ones too.": no demand is below 0, so the sum on the way down never falls, and what does not fit stays so
+-- smaller ones too.": no demand is below 0, so the sum on the way down never falls, and what does not fit stays so.
+-- `Walk` says the same place by place down the ranking
 unfoldable pub keeps : ℕ → (ℕ → ℕ) → (ℕ → ℕ) → ℕ → ℕ → Bool
 keeps n rank demand supply p = claims rank p && leb (down n rank demand p) supply
 
