@@ -5,10 +5,11 @@ use lib.Dec.{ltb, leb, eqb}
 use Rattle.lists.specs.Total.{total}
 
 -- "ports closed before the tick .. come first, then those asking. Within each: critical, high, then low and unknown alike":
--- two kinds of three ranks, 0 to 5, and after them the rank of a place that claims nothing
+-- two kinds of three ranks, 0 to 5, and one more for a place that claims nothing
 abbrev pub noClaim : ℕ
 noClaim = 6
 
+-- a place claims if its rank is below that
 unfoldable pub claims : (ℕ → ℕ) → ℕ → Bool
 claims rank p = ltb (rank p) noClaim
 
@@ -29,7 +30,8 @@ unfoldable pub down : ℕ → (ℕ → ℕ) → (ℕ → ℕ) → ℕ → ℕ
 down n rank demand p = sumWhere n demand (met rank p)
 
 -- "claims are kept while the sum of demands is at most the supply. The first that doesn't fit and all after it are shed,
--- smaller ones too.": no demand is below 0, so the sum on the way down never falls, and what does not fit stays so
+-- smaller ones too.": no demand is below 0, so the sum on the way down never falls, and what does not fit stays so.
+-- `Walk` says the same place by place down the ranking
 unfoldable pub keeps : ℕ → (ℕ → ℕ) → (ℕ → ℕ) → ℕ → ℕ → Bool
 keeps n rank demand supply p = claims rank p && leb (down n rank demand p) supply
 

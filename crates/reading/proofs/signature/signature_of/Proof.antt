@@ -8,7 +8,7 @@ use Rattle.reading.proofs.signature.signature_of.Statement.{statement}
 use Rattle.reading.proofs.signature.signature_of.Tie as tie
 
 pub signature-of-spec : {M : Type 1} → statement M
-unfolding signatureOf
+unfolding signatureOf byDifferences
 signature-of-spec =
     tie.close
     (tie.spec
