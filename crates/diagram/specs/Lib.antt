@@ -1,3 +1,4 @@
+pub mod Latched
 pub mod Open
 pub mod Outcomes
 pub mod Rules
