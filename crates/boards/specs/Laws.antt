@@ -2,7 +2,7 @@
 -- most the figure, and what stands past the count is as it was.
 -- Assumes nothing.
 use Prim.Native.Nat.{ℕ, _≤_, _<_}
-use mathlib.Core.Path.{_≡_, refl, _∙_}
+use mathlib.Core.Path.{_≡_, refl, _∙_, ap}
 use mathlib.Core.Bool.{true, false, cond}
 use native.Mathlib.Nat.{le-trans}
 use native.Mathlib.Omega.{arith}
@@ -12,16 +12,20 @@ use Rattle.lists.specs.Places.{getD-tabulate}
 use Rattle.lists.specs.Tests.{and-left, and-right}
 use Rattle.lists.specs.Total.{total-mono, total-fewer}
 use Rattle.power.specs.declared.Power.{Power}
+use Rattle.words.specs.Laws.{join-assoc}
+use Rattle.words.specs.Status.{join}
+use Rattle.words.specs.declared.status.Latches.{Latches}
 use Rattle.port.specs.States.{closed}
-use Rattle.settling.specs.Settle.{rank}
+use Rattle.settling.specs.Settle.{rank, settled}
 use Rattle.port.specs.declared.form.Moved.{Moved}
+use Rattle.port.specs.declared.form.Port.{Port}
 use Rattle.share.specs.Laws.{more-keeps, kept-sum-fits}
 use Rattle.share.specs.Share.{noClaim, keeps, sumWhere, keptSum}
 use Rattle.table.specs.Drawn.{closedAt, draws, closedSum}
 use Rattle.table.specs.Form.{places, noPort, portAt}
 use Rattle.table.specs.declared.form.Table.{Table}
-use Rattle.boards.specs.Settled.{settled-mono, settled-draws, no-claim-open}
-use Rattle.boards.specs.Sharing.{rankAt, claimAt, keptAt, settledAt, portAfter, tableAfter}
+use Rattle.boards.specs.Settled.{settled-mono, settled-draws, settled-latches, no-claim-open}
+use Rattle.boards.specs.Sharing.{rankAt, claimAt, keptAt, settledAt, portAfter, latchedAt, tableAfter}
 
 -- what the laws ask of a board's move: it closes no port by itself
 abbrev pub Opens : Table → (ℕ → Moved) → Type 0
@@ -96,3 +100,19 @@ module _ (t : Table) (moved : ℕ → Moved) (few : t .count ≤ places) where
         let g : ℕ → ℕ = λ p. cond (keeps places (rankAt t moved) demand (s .0) p) (demand p) 0 in
         le-trans (total-mono (t .count) (λ p. draws (portAt (tableAfter t moved s) p)) g (place s))
         (le-trans (total-fewer (t .count) places g few) (kept-sum-fits places (rankAt t moved) demand (s .0)))
+
+-- what a journal asks of a board's move: it tells what it latched
+abbrev pub Tells : Table → (ℕ → Moved) → Type 0
+Tells t moved = (p : ℕ) → p < t .count → moved p .port .latches ≡ join (portAt t p .latches) (moved p .latched)
+
+-- then a port's latches after the tick are those that it had and those that were latched in it
+pub latches-after : (t : Table) (moved : ℕ → Moved) (supply : Power) → t .count ≤ places → Tells t moved → (p : ℕ) → p < t .count
+    → portAt (tableAfter t moved supply) p .latches ≡ join (portAt t p .latches) (latchedAt t moved supply p)
+unfolding settledAt latchedAt
+latches-after t moved supply few tells p l =
+    let s = settled (rankAt t moved p) (keptAt t moved supply p) (moved p) in
+    ap (λ (x : Port). x .latches) (here t moved few supply p l)
+    ∙ settled-latches (rankAt t moved p) (keptAt t moved supply p) (moved p)
+    ∙ ap (λ (k : Latches). join k (s .latched)) (tells p l)
+    ∙ join-assoc (portAt t p .latches) (moved p .latched) (s .latched)
+    ∙ simp (lt-ltb p (t .count) l)

@@ -11,10 +11,12 @@ use borrow.Author.Tests.{leb-true}
 use Rattle.lists.specs.Tests.{choice}
 use Rattle.power.specs.declared.Power.{Power}
 use Rattle.words.specs.Control.{priorityOf}
+use Rattle.words.specs.Laws.{join-none}
+use Rattle.words.specs.Status.{noLatches, join}
 use Rattle.words.specs.declared.control.Priority.{Priority}
 use Rattle.words.specs.declared.control.Priority.the-variants.{Unknown, Critical, High, Low}
 use Rattle.port.specs.Entry.{enter}
-use Rattle.port.specs.Form.{quietly}
+use Rattle.port.specs.Form.{quietly, latchDenied}
 use Rattle.port.specs.States.{closed, inTest}
 use Rattle.settling.specs.Settle.{urgency, rank, granted, shed, settled}
 use Rattle.share.specs.Share.{noClaim}
@@ -103,3 +105,31 @@ settled-draws r k m h = go (leb noClaim r) k refl
         (le-trans (draws-at-most (granted (m .port .state) (m .port))) (le-of-eq (ap (λ (x : Power). x .0) (granted-demand (m .port .state) (m .port)))))
         (draws-at-most (m .port))
     go false false e = le-of-eq (draws-open (shed (m .port) .port) (shed-open (m .port)))
+
+granted-latches : (s : State) (p : Port) → granted s p .latches ≡ p .latches
+unfolding granted enter
+granted-latches Disabled p = refl
+granted-latches Idle p = refl
+granted-latches Detecting p = refl
+granted-latches Backoff p = refl
+granted-latches Classifying p = refl
+granted-latches PowerUp p = refl
+granted-latches PowerOn p = refl
+granted-latches ErrorDelay p = refl
+granted-latches TestMode p = refl
+granted-latches TestError p = refl
+
+-- what settling tells that it latched is what the port has more
+pub settled-latches : (r : ℕ) (k : Bool) (m : Moved) → settled r k m .port .latches ≡ join (m .port .latches) (settled r k m .latched)
+unfolding settled shed enter
+settled-latches r k m =
+    choice Told (leb noClaim r) (quietly (m .port)) _ none
+    (choice Told k (quietly (cond (m .asks) (granted (m .port .state) (m .port)) (m .port))) (shed (m .port))
+    (choice (λ (x : Port). x .latches ≡ join (m .port .latches) noLatches) (m .asks) (granted (m .port .state) (m .port)) (m .port) (granted-latches (m .port .state) (m .port) ∙ none) none)
+    (choice (λ (x : Port). join (x .latches) latchDenied ≡ join (m .port .latches) latchDenied) (inTest (m .port .state)) (enter TestError (m .port)) (enter Idle (m .port)) refl refl))
+  where
+    Told : Moved → Type 0
+    Told x = x .port .latches ≡ join (m .port .latches) (x .latched)
+
+    none : m .port .latches ≡ join (m .port .latches) noLatches
+    none = join-none (m .port .latches)

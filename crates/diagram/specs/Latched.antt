@@ -1,20 +1,15 @@
 -- What a move tells that it latched is what its port has more: who reads the one need not look at the other.
 -- Assumes nothing.
 use mathlib.Core.Path.{_≡_, refl}
-use mathlib.Core.Bool.{or-false}
 use Rattle.power.specs.declared.Power.{Power}
-use Rattle.words.specs.Status.{noLatches, join}
-use Rattle.words.specs.declared.status.Latches.{Latches}
+use Rattle.words.specs.Laws.{join-none}
+use Rattle.words.specs.Status.{join}
 use Rattle.port.specs.Entry.{enter}
 use Rattle.port.specs.declared.form.Moved.{Moved}
 use Rattle.port.specs.declared.form.Port.{Port}
 use Rattle.port.specs.declared.form.Reading.{Reading}
 use Rattle.diagram.specs.Outcomes.{step-outcome}
 use Rattle.diagram.specs.Step.{step}
-
-join-none : (l : Latches) → l ≡ join l noLatches
-unfolding join
-join-none l = simp or-false
 
 pub latches-told : (claim : Power) (p : Port) (r : Reading) → step claim p r .port .latches ≡ join (p .latches) (step claim p r .latched)
 unfolding enter

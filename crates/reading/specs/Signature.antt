@@ -1,7 +1,7 @@
 -- Document 01, "Samples": the signature, from two voltages and two currents.
 use Prim.Native.Nat.{ℕ}
-use mathlib.Core.Bool.{Bool, false, not, cond, _||_, _&&_}
-use lib.Dec.{leb}
+use mathlib.Core.Bool.{Bool, false, cond, _||_, _&&_}
+use lib.Dec.{ltb}
 use lib.IntN.{ℤ, pos, _-ℤ_, _*ℤ_}
 use lib.Signed.{ltZ, leZ}
 use Rattle.reading.specs.declared.signature.Signature.{Signature}
@@ -9,7 +9,7 @@ use Rattle.reading.specs.declared.signature.Signature.the-variants.{Vali
 
 -- "outside 2,800..10,000"
 unfoldable pub outside : ℕ → Bool
-outside v = not (leb 2800 v && leb v 10000)
+outside v = ltb v 2800 || ltb 10000 v
 
 -- a is at least b
 abbrev pub geZ : ℤ → ℤ → Bool

@@ -4,6 +4,7 @@ pub mod History
 pub mod Kept
 pub mod Limits
 pub mod MoveRows
+pub mod OtherBoard
 pub mod Reached
 pub mod Rows
 pub mod Shows

@@ -2,13 +2,13 @@
 -- Assumes nothing.
 use Prim.Native.Nat.{ℕ, zero, suc, _/_, _%_, _<_}
 use mathlib.Core.Path.{_≡_, refl, sym, _∙_, ap}
-use mathlib.Core.Bool.{Bool, true, false, _||_, not, false≢true}
+use mathlib.Core.Bool.{Bool, true, false, _||_, not, false≢true, or-false, or-assoc}
 use native.Mathlib.Omega.{arith}
 use lib.Dec.{eqb, leb}
 use borrow.Author.Tests.{lt-leb, leb-false, eq-eqb}
 use Rattle.lists.specs.Bits.{field, bit, above, one-small, one-says, choose}
 use Rattle.words.specs.Control.{enableCode, pairCode, priorityCode, enableOf, pairOf, priorityOf, controlOf, wordOf, refused}
-use Rattle.words.specs.Status.{conditionCode, statusWord}
+use Rattle.words.specs.Status.{noLatches, join, conditionCode, statusWord}
 use Rattle.words.specs.declared.control.Enable.{Enable}
 use Rattle.words.specs.declared.control.Enable.the-variants.{Disabled, Enabled, Forced, Reserved}
 use Rattle.words.specs.declared.control.Pair.{Pair}
@@ -158,3 +158,12 @@ status-shows l k c h =
       condition = omega arith;
       lowest = eq-eqb (w / 1 % 2) 1 (omega arith);
     }
+
+-- ---- latches that are joined
+pub join-none : (l : Latches) → l ≡ join l noLatches
+unfolding join
+join-none l = simp or-false
+
+pub join-assoc : (k l m : Latches) → join (join k l) m ≡ join k (join l m)
+unfolding join
+join-assoc k l m = simp or-assoc
