@@ -7,15 +7,14 @@ use mathlib.Core.List.{List, [], _∷_}
 use mathlib.Core.Logic.{_⊎_, inl, inr, ⊎-elim}
 use native.Mathlib.Omega.{arith}
 use lib.Count.{ones}
-use lib.Dec.{leb, ltb, eqb}
+use lib.Dec.{ltb, eqb}
 use lib.ListN.{getD, set, getD-replicate}
 use borrow.Author.Tests.{le-leb, lt-ltb, ltb-true, eqb-true, not-false}
 use Rattle.lists.specs.Bits.{field, above, one, choose}
 use Rattle.lists.specs.Count.{count, ones-mask, count-either}
-use Rattle.lists.specs.Every.{every, every-at, every-of}
 use Rattle.lists.specs.Places.{getD-tabulate}
 use Rattle.lists.specs.Table.{some}
-use Rattle.lists.specs.Tests.{and-left, and-right, fails-right}
+use Rattle.lists.specs.Tests.{and-left, fails-right}
 use Rattle.lists.specs.Total.{total-cong}
 use Rattle.power.specs.Power.{atMost, highestSupply}
 use Rattle.power.specs.declared.Power.{Power}
@@ -32,36 +31,9 @@ use Rattle.tick.specs.Digest.{digest}
 use Rattle.table.specs.Form.{noPort, portAt, withPort}
 use Rattle.table.specs.Laws.{well-count}
 use Rattle.tick.specs.Tick.{movedAt, rankAt, keptAt, portAfter, tableAfter, closedAt, namesA, namesB, maskA, maskB}
-use Rattle.statements.specs.Well.{Well, well-of, well-test, digest-well, step-well, settled-well}
+use Rattle.table.specs.Well.{Well, well-of, WellTable, table-of, table-test}
+use Rattle.statements.specs.Well.{digest-well, step-well, settled-well}
 use Rattle.table.specs.WellMade.{wellCounts, wellPort, wellMade}
-
--- the parts of a well-made table
-pub record WellTable (t : Table) : Type 0 where
-  pub some-ports : leb 1 (t .count) ≡ true
-  pub few-ports : leb (t .count) 48 ≡ true
-  pub supply : atMost (t .supply) highestSupply ≡ true
-  pub ports : (p : ℕ) → p < t .count → Well (portAt t p)
-
-pub table-of : (t : Table) → wellMade t ≡ true → WellTable t
-unfolding wellMade
-table-of t e =
-    let g3 = every (t .count) (λ p. wellPort (portAt t p)) in
-    let g2 = atMost (t .supply) highestSupply && g3 in
-    let g1 = leb (t .count) 48 && g2 in
-    let e1 = and-right (leb 1 (t .count)) g1 e in
-    let e2 = and-right (leb (t .count) 48) g2 e1 in
-    record {
-      some-ports = and-left (leb 1 (t .count)) g1 e;
-      few-ports = and-left (leb (t .count) 48) g2 e1;
-      supply = and-left (atMost (t .supply) highestSupply) g3 e2;
-      ports = λ p l. well-of (portAt t p) (every-at (t .count) (λ q. wellPort (portAt t q)) (and-right (atMost (t .supply) highestSupply) g3 e2) p l);
-    }
-
-pub table-test : (t : Table) → WellTable t → wellMade t ≡ true
-unfolding wellMade
-table-test t w =
-    let e : every (t .count) (λ p. wellPort (portAt t p)) ≡ true = every-of (t .count) (λ p. wellPort (portAt t p)) (λ p l. well-test (portAt t p) (w .ports p l)) in
-    simp (w .some-ports, w .few-ports, w .supply, e)
 
 -- ---- the tick
 port-after-well : (t : Table) (block : List ℕ) (supply : Power) → WellTable t → (p : ℕ) → p < t .count → Well (portAfter t block supply p)
