@@ -1,94 +1,39 @@
--- Well-made tables stay well-made: no call makes an ill-made one. And the number that a tick answers is the number of closed ports.
+-- No call makes an ill-made table: the access switch's tick by the laws of every board, and the calls that change one port.
 -- Assumes nothing.
-use Prim.Native.Nat.{ℕ, zero, suc, _+_, _*_, _≤_, _<_}
-use mathlib.Core.Path.{_≡_, refl, _∙_, ap, ap₂}
-use mathlib.Core.Bool.{Bool, true, false, not, _&&_, _||_}
+use Prim.Native.Nat.{ℕ, zero, suc, _*_, _≤_, _<_}
+use mathlib.Core.Path.{_≡_, refl}
+use mathlib.Core.Bool.{true, false}
 use mathlib.Core.List.{List, [], _∷_}
 use mathlib.Core.Logic.{_⊎_, inl, inr, ⊎-elim}
 use native.Mathlib.Omega.{arith}
-use lib.Count.{ones}
-use lib.Dec.{leb, ltb, eqb}
 use lib.ListN.{getD, set, getD-replicate}
-use borrow.Author.Tests.{le-leb, lt-ltb, ltb-true, eqb-true, not-false}
-use Rattle.lists.specs.Bits.{field, above, one, choose}
-use Rattle.lists.specs.Count.{count, ones-mask, count-either}
-use Rattle.lists.specs.Every.{every, every-at, every-of}
-use Rattle.lists.specs.Places.{getD-tabulate}
+use borrow.Author.Tests.{le-leb}
+use Rattle.lists.specs.Bits.{field, above}
 use Rattle.lists.specs.Table.{some}
-use Rattle.lists.specs.Tests.{and-left, and-right, fails-right}
-use Rattle.lists.specs.Total.{total-cong}
 use Rattle.power.specs.Power.{atMost, highestSupply}
 use Rattle.power.specs.declared.Power.{Power}
 use Rattle.reading.specs.Class.{isDemand}
 use Rattle.reading.specs.Sample.{sampleAt}
-use Rattle.words.specs.Control.{refused, pairOf}
-use Rattle.words.specs.declared.control.Pair.{Pair}
-use Rattle.words.specs.declared.control.Pair.the-variants.{Neither, A, B, Both}
-use Rattle.port.specs.States.{closed}
+use Rattle.words.specs.Control.{refused}
 use Rattle.port.specs.declared.form.Port.{Port}
+use Rattle.boards.specs.Sharing.{tableAfter}
+use Rattle.boards.specs.Well.{after-well}
 use Rattle.table.specs.declared.form.Table.{Table}
 use Rattle.calls.specs.Calls.{coldPort, coldTable, withControl, unlatched, demanding}
 use Rattle.tick.specs.Digest.{digest}
-use Rattle.table.specs.Form.{noPort, portAt, withPort}
-use Rattle.table.specs.Laws.{well-count}
-use Rattle.boards.specs.Sharing.{rankAt, keptAt, portAfter, tableAfter}
-use Rattle.boards.specs.Masks.{namesA, namesB, maskA, maskB}
-use Rattle.table.specs.Drawn.{closedAt}
 use Rattle.tick.specs.Tick.{movedAt}
-use Rattle.statements.specs.Well.{Well, well-of, well-test, digest-well, step-well, settled-well}
+use Rattle.table.specs.Form.{noPort, portAt, withPort}
+use Rattle.table.specs.Well.{Well, well-of, WellTable, table-of, table-test}
 use Rattle.table.specs.WellMade.{wellCounts, wellPort, wellMade}
-
--- the parts of a well-made table
-pub record WellTable (t : Table) : Type 0 where
-  pub some-ports : leb 1 (t .count) ≡ true
-  pub few-ports : leb (t .count) 48 ≡ true
-  pub supply : atMost (t .supply) highestSupply ≡ true
-  pub ports : (p : ℕ) → p < t .count → Well (portAt t p)
-
-pub table-of : (t : Table) → wellMade t ≡ true → WellTable t
-unfolding wellMade
-table-of t e =
-    let g3 = every (t .count) (λ p. wellPort (portAt t p)) in
-    let g2 = atMost (t .supply) highestSupply && g3 in
-    let g1 = leb (t .count) 48 && g2 in
-    let e1 = and-right (leb 1 (t .count)) g1 e in
-    let e2 = and-right (leb (t .count) 48) g2 e1 in
-    record {
-      some-ports = and-left (leb 1 (t .count)) g1 e;
-      few-ports = and-left (leb (t .count) 48) g2 e1;
-      supply = and-left (atMost (t .supply) highestSupply) g3 e2;
-      ports = λ p l. well-of (portAt t p) (every-at (t .count) (λ q. wellPort (portAt t q)) (and-right (atMost (t .supply) highestSupply) g3 e2) p l);
-    }
-
-pub table-test : (t : Table) → WellTable t → wellMade t ≡ true
-unfolding wellMade
-table-test t w =
-    let e : every (t .count) (λ p. wellPort (portAt t p)) ≡ true = every-of (t .count) (λ p. wellPort (portAt t p)) (λ p l. well-test (portAt t p) (w .ports p l)) in
-    simp (w .some-ports, w .few-ports, w .supply, e)
+use Rattle.statements.specs.Well.{digest-well, step-well}
 
 -- ---- the tick
-port-after-well : (t : Table) (block : List ℕ) (supply : Power) → WellTable t → (p : ℕ) → p < t .count → Well (portAfter t (movedAt t block) supply p)
-unfolding portAfter movedAt
-port-after-well t block supply w p l =
-    simp (lt-ltb p (t .count) l)
-    (settled-well (rankAt t (movedAt t block) p) (keptAt t (movedAt t block) supply p) (movedAt t block p)
-    (step-well (portAt t p) (digest (sampleAt block (14 * p))) (digest-well (sampleAt block (14 * p))) (w .ports p l)))
-
-pub port-after-at : (t : Table) (block : List ℕ) (supply : Power) (p : ℕ) → p < 48 → portAt (tableAfter t (movedAt t block) supply) p ≡ portAfter t (movedAt t block) supply p
-unfolding portAt tableAfter
-port-after-at t block supply p l = getD-tabulate 48 (portAfter t (movedAt t block) supply) noPort p l
-
-pub after-well : (t : Table) (block : List ℕ) (supply : Power) → wellMade t ≡ true → atMost supply highestSupply ≡ true → wellMade (tableAfter t (movedAt t block) supply) ≡ true
-unfolding tableAfter
-after-well t block supply e s =
-    let w = table-of t e in
-    table-test (tableAfter t (movedAt t block) supply)
-    (record {
-      some-ports = w .some-ports;
-      few-ports = w .few-ports;
-      supply = s;
-      ports = λ p l. rw (port-after-at t block supply p (omega (arith, well-count t e))) (port-after-well t block supply w p l);
-    })
+pub tick-well : (t : Table) (block : List ℕ) (supply : Power) → wellMade t ≡ true → atMost supply highestSupply ≡ true → wellMade (tableAfter t (movedAt t block) supply) ≡ true
+unfolding movedAt
+tick-well t block supply e s =
+    after-well t (movedAt t block) supply
+    (λ p l. step-well (portAt t p) (digest (sampleAt block (14 * p))) (digest-well (sampleAt block (14 * p))) (table-of t e .ports p l))
+    e s
 
 -- ---- the calls that change one port
 -- after a store, what stands at a place is what was stored or what was there
@@ -144,52 +89,3 @@ cold-well n h k =
       supply = refl;
       ports = λ p l. rw (getD-replicate 48 p coldPort noPort (omega arith)) (well-of coldPort refl);
     })
-
--- ---- the number of closed ports
-named : (n : ℕ) → (eqb n 1 || eqb n 2) ≡ true → (namesA (choose Neither A B Both n) || namesB (choose Neither A B Both n)) ≡ true
-named n e = go (eqb n 1) refl e
-  where
-    go : (t : Bool) → eqb n 1 ≡ t → (t || eqb n 2) ≡ true → (namesA (choose Neither A B Both n) || namesB (choose Neither A B Both n)) ≡ true
-    go true q r = rw (eqb-true n 1 q)
-    go false q r = rw (eqb-true n 2 r)
-
--- a word that a write takes names A or B
-names-one : (w : ℕ) → refused w ≡ false → (namesA (pairOf w) || namesB (pairOf w)) ≡ true
-unfolding refused pairOf
-names-one w e =
-    let n = field 2 2 w in
-    let both = eqb n 1 || eqb n 2 in
-    named n (not-false both (fails-right (eqb (field 0 2 w) 3) (not both) (fails-right (above 6 w) (eqb (field 0 2 w) 3 || not both) e)))
-
--- and never both
-names-apart : (x : Pair) → (namesA x && namesB x) ≡ false
-names-apart Neither = refl
-names-apart A = refl
-names-apart B = refl
-names-apart Both = refl
-
--- a closed port of a well-made table names A or B
-closed-names : (t : Table) → WellTable t → (p : ℕ) → closedAt t p ≡ true → (namesA (pairOf (portAt t p .control)) || namesB (pairOf (portAt t p .control))) ≡ true
-unfolding closedAt
-closed-names t w p e = names-one (portAt t p .control) (w .ports p (ltb-true p (t .count) (and-left (ltb p (t .count)) (closed (portAt t p .state)) e)) .control)
-
--- four tests on one place
-apart : (c a b : Bool) → (a && b) ≡ false → ((c && a) && (c && b)) ≡ false
-apart true a b e = e
-apart false a b e = refl
-
-either : (c a b : Bool) → (c ≡ true → (a || b) ≡ true) → ((c && a) || (c && b)) ≡ c
-either true a b h = h refl
-either false a b h = refl
-
--- "a number of closed ports equal to the ones in the two masks": it is the number of ports in closed states
-pub closed-number : (t : Table) → wellMade t ≡ true → ones (maskA t) + ones (maskB t) ≡ count 48 (closedAt t)
-unfolding maskA maskB count
-closed-number t e =
-    let w = table-of t e in
-    let a : ℕ → Bool = λ p. namesA (pairOf (portAt t p .control)) in
-    let b : ℕ → Bool = λ p. namesB (pairOf (portAt t p .control)) in
-    ap₂ _+_ (ones-mask 48 (λ p. closedAt t p && a p)) (ones-mask 48 (λ p. closedAt t p && b p))
-    ∙ count-either 48 (λ p. closedAt t p && a p) (λ p. closedAt t p && b p) (λ p. apart (closedAt t p) (a p) (b p) (names-apart (pairOf (portAt t p .control))))
-    ∙ total-cong 48 (λ p. one ((closedAt t p && a p) || (closedAt t p && b p))) (λ p. one (closedAt t p))
-    (λ p l. ap one (either (closedAt t p) (a p) (b p) (closed-names t w p)))

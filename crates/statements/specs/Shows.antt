@@ -3,7 +3,7 @@
 -- Assumes nothing.
 use Prim.Native.Nat.{ℕ}
 use mathlib.Core.Path.{_≡_, refl, sym, subst}
-use mathlib.Core.Bool.{Bool, true, false, cond, not, _&&_, false≢true}
+use mathlib.Core.Bool.{Bool, true, false, cond, _&&_, false≢true}
 use lib.Dec.{leb}
 use Rattle.lists.specs.Bits.{bit}
 use Rattle.lists.specs.Tests.{choice}
@@ -17,17 +17,13 @@ use Rattle.reading.specs.declared.class.Class.the-variants.{Is as ClassIs, Fail
 use Rattle.reading.specs.declared.sample.Sample.{Sample}
 use Rattle.reading.specs.declared.signature.Signature.{Signature}
 use Rattle.reading.specs.declared.signature.Signature.the-variants.{Valid as SigValid, Invalid as SigInvalid, Open as SigOpen}
-use Rattle.words.specs.Control.{enableOf, pairOf, isOff, isOn, isForced}
-use Rattle.port.specs.Form.{withClass, withDemand, withCounts, detectionAt, backoffAt, errorDelayAt, powerOnAt, noLoadAt, quietly, latching, asking, latchAbsent}
-use Rattle.port.specs.Entry.{up, during, enter}
-use Rattle.diagram.specs.Rules.{isB, idle, detected, detecting, backoff, errorDelay, classed, classifying, stressed, watched, risen, powerUp, powerOn, testMode, testError}
-use Rattle.port.specs.States.{inTest, givesWay, isIdle}
+use Rattle.port.specs.Entry.{enter}
+use Rattle.port.specs.States.{inTest, isIdle}
 use Rattle.settling.specs.Settle.{granted, shed, settled}
+use Rattle.diagram.specs.Outcomes.{faulted, step-outcome}
 use Rattle.diagram.specs.Step.{byState, step}
-use Rattle.port.specs.declared.form.Classing.{Classing}
-use Rattle.port.specs.declared.form.Classing.the-variants.{NotDone as NotClassed, Failed, Is as Classed}
-use Rattle.port.specs.declared.form.Detection.{Detection}
-use Rattle.port.specs.declared.form.Detection.the-variants.{NotDone, Valid, Invalid, Open}
+use Rattle.port.specs.declared.form.Classing.the-variants.{NotDone as NotClassed, Is as Classed}
+use Rattle.port.specs.declared.form.Detection.the-variants.{NotDone, Valid}
 use Rattle.port.specs.declared.form.Moved.{Moved}
 use Rattle.port.specs.declared.form.Port.{Port}
 use Rattle.port.specs.declared.form.Reading.{Reading}
@@ -153,116 +149,36 @@ module _ (s : Sample) where
   abbrev Right : Shown → Moved → Type 0
   Right y m = Needs (m .port .state) y × (m .asks ≡ true → Asked (m .port .state) y)
 
-  quiet : (y : Shown) (p : Port) → Needs (p .state) y → Right y (quietly p)
-  quiet y p n = (n, λ e. absurd (false≢true e))
+  -- and one that does not ask
+  unasked : (y : Shown) (st : State) → Needs st y → Needs st y × (false ≡ true → Asked st y)
+  unasked y st n = (n, λ e. absurd (false≢true e))
 
   module _ (x : Shown) where
     y : Shown
     y = seen s x
 
-    right-idle : (p : Port) → p .state ≡ Idle → Needs (p .state) x → Right y (idle forced p)
-    unfolding idle enter y
-    right-idle p e n =
-        choice (Right y) (isOn (enableOf (p .control))) (quietly (enter Detecting (withClass 0 p))) _ (quiet y (enter Detecting (withClass 0 p)) tt)
-        (choice (Right y) (isForced (enableOf (p .control))) (asking (withDemand forced p)) (quietly p)
-        (kept (p .state) x n, λ a. subst (λ (st : State). Asked st y) (sym e) tt)
-        (quiet y p (kept (p .state) x n)))
-
-    right-detected : (d : Detection) (q : Port) → digest s .detection ≡ d → Needs (q .state) x → Right y (detected d q)
-    unfolding detected enter y
-    right-detected NotDone q e n = quiet y q (kept (q .state) x n)
-    right-detected Valid q e n = (sig-seen (valid-shown e) x, λ a. absurd (false≢true a))
-    right-detected Invalid q e n =
-        (choice (λ (z : Port). Needs (z .state) y) (isB (pairOf (q .control))) (enter Backoff q) (enter Idle q) tt tt, λ a. absurd (false≢true a))
-    right-detected Open q e n = (tt, λ a. absurd (false≢true a))
-
-    right-detecting : (p : Port) → Needs (p .state) x → Right y (detecting p (digest s))
-    unfolding detecting enter y
-    right-detecting p n =
-        let q = withCounts (detectionAt (up (p .counts .detection)) (p .counts)) p in
-        choice (Right y) (leb 500 (q .counts .detection)) (quietly (enter Idle q)) (detected (digest s .detection) q) (quiet y (enter Idle q) tt) (right-detected (digest s .detection) q refl n)
-
-    right-backoff : (p : Port) → Needs (p .state) x → Right y (backoff p)
-    unfolding backoff enter y
-    right-backoff p n =
-        let q = withCounts (backoffAt (up (p .counts .backoff)) (p .counts)) p in
-        quiet y (cond (leb 2000 (q .counts .backoff)) (enter Idle q) q) (choice (λ (z : Port). Needs (z .state) y) (leb 2000 (q .counts .backoff)) (enter Idle q) q tt (kept (p .state) x n))
-
-    right-error-delay : (p : Port) → Needs (p .state) x → Right y (errorDelay p)
-    unfolding errorDelay enter y
-    right-error-delay p n =
-        let q = withCounts (errorDelayAt (up (p .counts .«error_delay»)) (p .counts)) p in
-        quiet y (cond (leb 750 (q .counts .«error_delay»)) (enter Idle q) q) (choice (λ (z : Port). Needs (z .state) y) (leb 750 (q .counts .«error_delay»)) (enter Idle q) q tt (kept (p .state) x n))
-
-    right-classed : (k : Classing) (q : Port) → digest s .class ≡ k → q .state ≡ Classifying → Needs (q .state) x → Right y (classed k q)
-    unfolding classed enter y
-    right-classed NotClassed q e c n = quiet y q (kept (q .state) x n)
-    right-classed Failed q e c n = quiet y (enter Idle q) tt
-    right-classed (Classed k d) q e c n = (
-      kept (q .state) x n,
-      λ a. subst (λ (st : State). Asked st y) (sym c) (class-seen (class-given k d e) x (subst (λ (st : State). Needs st x) c n)),
-    )
-
-    right-classifying : (p : Port) → p .state ≡ Classifying → Needs (p .state) x → Right y (classifying p (digest s))
-    unfolding classifying enter y
-    right-classifying p c n =
-        let q = withCounts (powerOnAt (up (p .counts .«power_on»)) (p .counts)) p in
-        choice (Right y) (leb 400 (q .counts .«power_on»)) (quietly (enter Idle q)) (classed (digest s .class) q) (quiet y (enter Idle q) tt) (right-classed (digest s .class) q refl c n)
-
-    right-watched : (q fault : Port) (sound : Moved) → Needs (fault .state) y → Right y sound → Right y (watched q fault sound)
-    unfolding watched
-    right-watched q fault sound f r =
-        choice (Right y) (leb 60 (q .counts .limiting)) _ _ (f, λ a. absurd (false≢true a))
-        (choice (Right y) (leb 60 (q .counts .overload)) _ sound (f, λ a. absurd (false≢true a)) r)
-
-    right-power-up : (p : Port) → p .state ≡ PowerUp → Needs (p .state) x → Right y (powerUp p (digest s))
-    unfolding powerUp risen enter y
-    right-power-up p c n =
-        let q = withCounts (powerOnAt (up (p .counts .«power_on»)) (stressed (digest s) (p .counts))) p in
-        let u : Needs PowerUp (seen s x) = class-kept x (subst (λ (st : State). Needs st x) c n) in
-        right-watched q (enter ErrorDelay q) (quietly (risen (digest s .settled) q)) tt
-        (quiet y (risen (digest s .settled) q)
-        (choice (λ (z : Port). Needs (z .state) y) (leb 400 (q .counts .«power_on»)) (enter Idle q) (cond (digest s .settled) (enter PowerOn q) q) tt
-        (choice (λ (z : Port). Needs (z .state) y) (digest s .settled) (enter PowerOn q) q (on-of-up (seen s x) u) (kept (p .state) x n))))
-
-    right-power-on : (p : Port) → Needs (p .state) x → Right y (powerOn p (digest s))
-    unfolding powerOn enter y
-    right-power-on p n =
-        let q = withCounts (noLoadAt (during (not (digest s .load)) (p .counts .«no_load»)) (stressed (digest s) (p .counts))) p in
-        right-watched q (enter ErrorDelay q) (cond (leb 320 (q .counts .«no_load»)) (latching latchAbsent (enter Idle q)) (quietly q)) tt
-        (choice (Right y) (leb 320 (q .counts .«no_load»)) (latching latchAbsent (enter Idle q)) (quietly q) (tt, λ a. absurd (false≢true a)) (quiet y q (kept (p .state) x n)))
-
-    right-test-mode : (p : Port) → Needs (p .state) x → Right y (testMode p (digest s))
-    unfolding testMode enter y
-    right-test-mode p n =
-        let q = withCounts (stressed (digest s) (p .counts)) p in
-        choice (Right y) (isForced (enableOf (p .control))) (watched q (enter TestError q) (quietly q)) (quietly (enter Idle q))
-        (right-watched q (enter TestError q) (quietly q) tt (quiet y q (kept (p .state) x n)))
-        (quiet y (enter Idle q) tt)
-
-    right-test-error : (p : Port) → Needs (p .state) x → Right y (testError p)
-    unfolding testError enter y
-    right-test-error p n =
-        quiet y (cond (isForced (enableOf (p .control))) p (enter Idle p)) (choice (λ (z : Port). Needs (z .state) y) (isForced (enableOf (p .control))) p (enter Idle p) (kept (p .state) x n) tt)
-
-    right-state : (st : State) (p : Port) → p .state ≡ st → Needs (p .state) x → Right y (byState st forced p (digest s))
-    unfolding byState enter
-    right-state Disabled p c n = quiet y (enter Idle p) tt
-    right-state Idle p c n = right-idle p c n
-    right-state Detecting p c n = right-detecting p n
-    right-state Backoff p c n = right-backoff p n
-    right-state Classifying p c n = right-classifying p c n
-    right-state PowerUp p c n = right-power-up p c n
-    right-state PowerOn p c n = right-power-on p n
-    right-state ErrorDelay p c n = right-error-delay p n
-    right-state TestMode p c n = right-test-mode p n
-    right-state TestError p c n = right-test-error p n
-
     right-step : (p : Port) → Needs (p .state) x → Right y (step forced p (digest s))
-    unfolding step enter
+    unfolding enter y
     right-step p n =
-        choice (Right y) (isOff (enableOf (p .control))) (quietly (enter Disabled p)) _ (quiet y (enter Disabled p) tt)
-        (choice (Right y) (isForced (enableOf (p .control)) && givesWay (p .state)) (quietly (enter Idle p)) (byState (p .state) forced p (digest s)) (quiet y (enter Idle p) tt) (right-state (p .state) p refl n))
+        let stands : Needs (p .state) y = kept (p .state) x n in
+        let faulty = unasked y (faulted (p .state)) (choice (λ (st : State). Needs st y) (inTest (p .state)) TestError ErrorDelay tt tt) in
+        step-outcome forced p (digest s) (Right y)
+        (record {
+          disabled = unasked y Disabled tt;
+          yields = unasked y Idle tt;
+          stays = unasked y (p .state) stands;
+          idle = unasked y Idle tt;
+          detects = λ a. unasked y Detecting tt;
+          tests = λ a. (stands, λ e. subst (λ (st : State). Asked st y) (sym a) tt);
+          valid = λ a v. unasked y Classifying (sig-seen (valid-shown v) x);
+          invalid = λ a. unasked y Idle tt;
+          backs-off = λ a. unasked y Backoff tt;
+          classed = λ a k d c. (stands, λ e. subst (λ (st : State). Asked st y) (sym a) (class-seen (class-given k d c) x (subst (λ (st : State). Needs st x) a n)));
+          short = λ a. faulty;
+          overload = λ a. faulty;
+          settles = λ a. unasked y PowerOn (on-of-up y (class-kept x (subst (λ (st : State). Needs st x) a n)));
+          absent = λ a. unasked y Idle tt;
+        })
 
     -- an asker that is kept enters its state
     right-granted : (st : State) (p : Port) → p .state ≡ st → Needs (p .state) y → Asked st y → Needs (granted st p .state) y

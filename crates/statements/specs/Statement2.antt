@@ -28,7 +28,7 @@ use Rattle.share.specs.Share.{claims, before, keeps, keptSum}
 use Rattle.tick.specs.Digest.{digest}
 use Rattle.table.specs.Form.{portAt}
 use Rattle.boards.specs.MaskLaws.{bits-a, bits-b, past-a, past-b, closed-number}
-use Rattle.statements.specs.Kept.{after-well}
+use Rattle.statements.specs.Kept.{tick-well}
 use Rattle.table.specs.Laws.{well-count}
 use Rattle.boards.specs.Laws.{count-after, supply-after, rank-here, rank-past, claim-here, port-here, port-past}
 use Rattle.boards.specs.Sharing.{rankAt, claimAt, keptAt, settledAt, tableAfter}
@@ -168,7 +168,7 @@ ran-ticks : (t : Table) (block : List ℕ) (figure : ℕ) → wellMade t ≡ tru
 unfolding answered
 ran-ticks t block figure m f =
     let u = tableAfter t (movedAt t block) (tenths figure) in
-    let w = after-well t block (tenths figure) m (in-range figure f) in
+    let w = tick-well t block (tenths figure) m (in-range figure f) in
     let x = movedAt t block in
     record {
       moved = port-moves t block figure (well-count t m);

@@ -30,7 +30,7 @@ use Rattle.share.specs.Share.{claims, before, met, sumWhere, down, keeps}
 use Rattle.calls.specs.Calls.{coldPort}
 use Rattle.tick.specs.Digest.{digest}
 use Rattle.table.specs.Form.{portAt, zeroCounts}
-use Rattle.statements.specs.Kept.{closed-number}
+use Rattle.boards.specs.MaskLaws.{closed-number}
 use Rattle.boards.specs.Sharing.{rankAt, claimAt, keptAt}
 use Rattle.boards.specs.Masks.{namesA}
 use Rattle.table.specs.Drawn.{closedAt}
