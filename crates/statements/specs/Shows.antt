@@ -18,7 +18,9 @@ use Rattle.reading.specs.declared.sample.Sample.{Sample}
 use Rattle.reading.specs.declared.signature.Signature.{Signature}
 use Rattle.reading.specs.declared.signature.Signature.the-variants.{Valid as SigValid, Invalid as SigInvalid, Open as SigOpen}
 use Rattle.port.specs.Entry.{enter}
+use Rattle.port.specs.Form.{quietly}
 use Rattle.port.specs.States.{inTest, isIdle}
+use Rattle.share.specs.Share.{noClaim}
 use Rattle.settling.specs.Settle.{granted, shed, settled}
 use Rattle.diagram.specs.Outcomes.{faulted, step-outcome}
 use Rattle.diagram.specs.Step.{byState, step}
@@ -194,11 +196,11 @@ module _ (s : Sample) where
     right-granted TestMode p c n a = n
     right-granted TestError p c n a = n
 
-    right-settled : (r : ℕ) (k : Bool) (m : Moved) → Right y m → Needs (settled r k m .state) y
+    right-settled : (r : ℕ) (k : Bool) (m : Moved) → Right y m → Needs (settled r k m .port .state) y
     unfolding settled shed enter
     right-settled r k m w =
-        choice (λ (z : Port). Needs (z .state) y) (leb 6 r) (m .port) _ (w .0)
-        (choice (λ (z : Port). Needs (z .state) y) k _ _
+        choice (λ (z : Moved). Needs (z .port .state) y) (leb noClaim r) (quietly (m .port)) _ (w .0)
+        (choice (λ (z : Moved). Needs (z .port .state) y) k _ (shed (m .port))
         (grantee (m .asks) refl)
         (choice (λ (z : Port). Needs (z .state) y) (inTest (m .port .state)) (enter TestError (m .port)) (enter Idle (m .port)) tt tt))
       where
@@ -207,7 +209,7 @@ module _ (s : Sample) where
         grantee false e = w .0
 
   -- a port below the count, before and after a tick on its own sample
-  pub tick-needs : (r : ℕ) (k : Bool) (p : Port) (x : Shown) → Needs (p .state) x → Needs (settled r k (step forced p (digest s)) .state) (seen s x)
+  pub tick-needs : (r : ℕ) (k : Bool) (p : Port) (x : Shown) → Needs (p .state) x → Needs (settled r k (step forced p (digest s)) .port .state) (seen s x)
   unfolding y
   tick-needs r k p x n = right-settled x r k (step forced p (digest s)) (right-step x p n)
 
@@ -238,7 +240,7 @@ silent-shows signature = refl
 silent-shows both = refl
 
 -- so a port that stood in IDLE needs nothing of it
-pub tick-needs-idle : (s : Sample) (r : ℕ) (k : Bool) (p : Port) (x : Shown) → isIdle (p .state) ≡ true → Needs (p .state) x → Needs (settled r k (step forced p (digest s)) .state) x
+pub tick-needs-idle : (s : Sample) (r : ℕ) (k : Bool) (p : Port) (x : Shown) → isIdle (p .state) ≡ true → Needs (p .state) x → Needs (settled r k (step forced p (digest s)) .port .state) x
 tick-needs-idle s r k p x e n =
-    subst (λ (m : Moved). Needs (settled r k m .state) x) (idle-blind p (digest silent) (digest s) (is-idle (p .state) e))
-    (subst (λ (z : Shown). Needs (settled r k (step forced p (digest silent)) .state) z) (silent-shows x) (tick-needs silent r k p x n))
+    subst (λ (m : Moved). Needs (settled r k m .port .state) x) (idle-blind p (digest silent) (digest s) (is-idle (p .state) e))
+    (subst (λ (z : Shown). Needs (settled r k (step forced p (digest silent)) .port .state) z) (silent-shows x) (tick-needs silent r k p x n))
