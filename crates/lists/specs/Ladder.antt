@@ -4,7 +4,8 @@ use Prim.Native.Nat.{ℕ}
 use mathlib.Core.Path.{_≡_, refl, sym, _∙_, ap}
 use mathlib.Core.Bool.{Bool, true, false, cond}
 use mathlib.Core.List.{List, [], _∷_}
-use Rattle.lists.specs.Tests.{choice-on}
+use Rattle.lists.specs.Table.{all}
+use Rattle.lists.specs.Tests.{and-left, and-right, choice-on}
 
 -- document 01's table of numbers: "Given exactly when"
 abbrev pub ladder : {X : Type 0} → List (ℕ × Bool) → (ℕ → X) → X → X
@@ -24,6 +25,20 @@ module _ {X : Type 0} (P : X → Type 0) (refuse : ℕ → X) (value : X) where
       choice-on P (r .1) (refuse (r .0)) (ladder rs refuse value)
       (λ e. stops (r .0))
       (λ e. ladder-holds rs stops (λ c. goes (e, c)))
+
+  -- the same, where it holds of a refusal by some numbers only, and each number of the list is one of them
+  pub ladder-among : (among : ℕ → Bool) (rs : List (ℕ × Bool)) → all (λ r. among (r .0)) rs ≡ true → ((k : ℕ) → among k ≡ true → P (refuse k)) → (Clear rs → P value)
+      → P (ladder rs refuse value)
+  unfolding all
+  ladder-among among [] e stops goes = goes tt
+  ladder-among among (r ∷ rs) e stops goes =
+      choice-on P (r .1) (refuse (r .0)) (ladder rs refuse value)
+      (λ h. stops (r .0) (and-left (among (r .0)) _ e))
+      (λ h. ladder-among among rs (and-right (among (r .0)) _ e) stops (λ c. goes (h, c)))
+
+-- what no refusal is came by no refusal: no condition holds, and it is the value
+pub ladder-value : {X : Type 0} (refuse : ℕ → X) (value x : X) → ((k : ℕ) → refuse k ≡ x → ⊥) → (rs : List (ℕ × Bool)) → ladder rs refuse value ≡ x → Clear rs × (value ≡ x)
+ladder-value refuse value x never rs = ladder-holds (λ r. r ≡ x → Clear rs × (value ≡ x)) refuse value rs (λ k e. absurd (never k e)) (λ c e. (c, e))
 
 -- a part of the answer is that part of the refusal, or of the value
 pub ladder-part : {X Y : Type 0} (part : X → Y) (refuse : ℕ → X) (value : X) (rs : List (ℕ × Bool))

@@ -33,7 +33,8 @@ use Rattle.table.specs.Form.{noPort, portAt, withPort}
 use Rattle.table.specs.Laws.{well-count}
 use Rattle.tick.specs.Tick.{movedAt, rankAt, keptAt, portAfter, tableAfter, closedAt, namesA, namesB, maskA, maskB}
 use Rattle.statements.specs.Well.{Well, well-of, well-test, digest-well, step-well, settled-well}
-use Rattle.table.specs.WellMade.{wellCounts, wellPort, wellMade}
+use Rattle.table.specs.Head.{well-made-is}
+use Rattle.table.specs.WellMade.{illPort, wellPort, wellMade}
 
 -- the parts of a well-made table
 pub record WellTable (t : Table) : Type 0 where
@@ -43,8 +44,8 @@ pub record WellTable (t : Table) : Type 0 where
   pub ports : (p : ℕ) → p < t .count → Well (portAt t p)
 
 pub table-of : (t : Table) → wellMade t ≡ true → WellTable t
-unfolding wellMade
-table-of t e =
+table-of t well =
+    let e = rw (well-made-is t) at well in
     let g3 = every (t .count) (λ p. wellPort (portAt t p)) in
     let g2 = atMost (t .supply) highestSupply && g3 in
     let g1 = leb (t .count) 48 && g2 in
@@ -58,10 +59,9 @@ table-of t e =
     }
 
 pub table-test : (t : Table) → WellTable t → wellMade t ≡ true
-unfolding wellMade
 table-test t w =
     let e : every (t .count) (λ p. wellPort (portAt t p)) ≡ true = every-of (t .count) (λ p. wellPort (portAt t p)) (λ p l. well-test (portAt t p) (w .ports p l)) in
-    simp (w .some-ports, w .few-ports, w .supply, e)
+    simp (well-made-is, w .some-ports, w .few-ports, w .supply, e)
 
 -- ---- the tick
 port-after-well : (t : Table) (block : List ℕ) (supply : Power) → WellTable t → (p : ℕ) → p < t .count → Well (portAfter t block supply p)
@@ -132,7 +132,7 @@ demanding-well d p t e l g =
 
 -- ---- the cold start
 pub cold-well : (n : ℕ) → 1 ≤ n → n ≤ 48 → wellMade (coldTable n) ≡ true
-unfolding coldTable portAt wellPort wellCounts refused isDemand some atMost field above
+unfolding coldTable portAt wellPort illPort refused isDemand some atMost field above
 cold-well n h k =
     table-test (coldTable n)
     (record {

@@ -8,11 +8,11 @@ use mathlib.Core.Bool.{true, false, false≢true}
 use mathlib.Core.List.{List, [], _∷_}
 use native.Mathlib.Omega.{arith}
 use Rattle.lists.specs.Bits.{bit, above, field}
-use Rattle.lists.specs.Every.{every}
+use Rattle.lists.specs.Every.{every, someBelow}
 use Rattle.lists.specs.Places.{tabulate}
 use Rattle.lists.specs.Table.{some}
 use Rattle.lists.specs.Total.{total}
-use Rattle.power.specs.Power.{atMost, supplyOf}
+use Rattle.power.specs.Power.{over, supplyOf}
 use Rattle.reading.specs.Class.{classOf, isFour, classOfTwo, budgetOf, isDemand}
 use Rattle.reading.specs.Sample.{wordAt, sampleAt, reservedFlags, flagsOf}
 use Rattle.reading.specs.declared.sample.Sample.{Sample}
@@ -29,7 +29,7 @@ use Rattle.tick.specs.Digest.{digest}
 use Rattle.table.specs.Form.{portAt, withPort, done}
 use Rattle.tick.specs.Tick.{movedAt, rankAt, claimAt, keptAt, portAfter, tableAfter, closedAt, flagsTaken, tickWith, answered, tick}
 use Rattle.table.specs.declared.form.Table.{Table}
-use Rattle.table.specs.WellMade.{wellCounts, wellPort, wellMade}
+use Rattle.table.specs.WellMade.{illPort, illMade, wellMade}
 use Rattle.port.specs.States.{isIdle}
 use Rattle.statements.specs.History.{Call, control, ticked, after, reached, showsSignature, givesClass, nothing, signature, both, seen, adds, shown}
 
@@ -66,7 +66,7 @@ pub record Facts : Type 0 where
   pub too-early : shown 1 0 (ticked signs 154 ∷ ticked quiet 154 ∷ control 0 0x0005 ∷ []) ≡ nothing
 
 pub facts : Facts
-unfolding quiet signs gives signed reached after shown adds seen showsSignature givesClass coldStart coldTable done writeControl controlled withControl withPort wellMade atMost every portAt wellPort wellCounts refused field above isDemand some flagsTaken reservedFlags sampleAt wordAt tick tickWith supplyOf answered tableAfter tabulate portAfter digest flagsOf bit signatureOf outside byDifferences classOfTwo isFour classOf budgetOf step byState enableOf pairOf up idle detected detecting classifying classed rankAt movedAt rank priorityOf keptAt claimAt keeps claims down sumWhere total met before settled granted enter shed closedSum draws closedAt
+unfolding quiet signs gives signed reached after shown adds seen showsSignature givesClass coldStart coldTable done writeControl controlled withControl withPort wellMade illMade illPort over someBelow every portAt refused field above isDemand some flagsTaken reservedFlags sampleAt wordAt tick tickWith supplyOf answered tableAfter tabulate portAfter digest flagsOf bit signatureOf outside byDifferences classOfTwo isFour classOf budgetOf step byState enableOf pairOf up idle detected detecting classifying classed rankAt movedAt rank priorityOf keptAt claimAt keeps claims down sumWhere total met before settled granted enter shed closedSum draws closedAt
 facts = record { waits = refl; closes = refl; shows-both = refl; adds-up = refl; remembers = refl; opens = refl; forgets = refl; too-early = refl }
 
 -- the masks compared the other way round: false of our core

@@ -33,7 +33,8 @@ use Rattle.port.specs.declared.form.Reading.{Reading}
 use Rattle.port.specs.declared.form.State.{State}
 use Rattle.port.specs.declared.form.State.the-variants.{Disabled, Idle, Detecting, Backoff, Classifying, PowerUp, PowerOn, ErrorDelay, TestMode, TestError}
 use Rattle.tick.specs.Digest.{classingOf, digest}
-use Rattle.table.specs.WellMade.{wellCounts, wellPort}
+use Rattle.table.specs.Head.{wellCounts, well-port-is}
+use Rattle.table.specs.WellMade.{wellPort}
 
 pub record WellCounts (c : Counts) : Type 0 where
   pub detection : c .detection ≤ 2000
@@ -95,18 +96,16 @@ counts-test c w =
     )
 
 pub well-of : (p : Port) → wellPort p ≡ true → Well p
-unfolding wellPort
 well-of p e =
     let g2 = not (refused (p .control)) && isDemand (p .demand) in
     let g1 = leb (p .class) 4 && g2 in
-    let e1 = split (wellCounts (p .counts)) g1 e in
+    let e1 = split (wellCounts (p .counts)) g1 (rw (well-port-is p) at e) in
     let e2 = split (leb (p .class) 4) g2 (e1 .1) in
     let e3 = split (not (refused (p .control))) (isDemand (p .demand)) (e2 .1) in
     record { counts = counts-of (p .counts) (e1 .0); class = leb-true (p .class) 4 (e2 .0); control = not-true (refused (p .control)) (e3 .0); demand = e3 .1 }
 
 pub well-test : (p : Port) → Well p → wellPort p ≡ true
-unfolding wellPort
-well-test p w = simp (counts-test (p .counts) (w .counts), le-leb (p .class) 4 (w .class), w .control, w .demand)
+well-test p w = simp (well-port-is, counts-test (p .counts) (w .counts), le-leb (p .class) 4 (w .class), w .control, w .demand)
 
 up-small : (n : ℕ) → up n ≤ 2000
 unfolding up

@@ -11,10 +11,10 @@ use lib.Count.{ones}
 use lib.Dec.{ltb}
 use lib.ListN.{replicate}
 use Rattle.lists.specs.Bits.{bit, above, field}
-use Rattle.lists.specs.Every.{every}
+use Rattle.lists.specs.Every.{every, someBelow}
 use Rattle.lists.specs.Table.{some}
 use Rattle.lists.specs.Total.{total}
-use Rattle.power.specs.Power.{tenths, zeroPower, atMost}
+use Rattle.power.specs.Power.{tenths, zeroPower, over}
 use Rattle.reading.specs.Class.{classOf, isFour, classOfTwo, budgetOf, isDemand}
 use Rattle.reading.specs.Sample.{wordAt, sampleAt, reservedFlags, flagsOf}
 use Rattle.words.specs.Control.{enableOf, pairOf, priorityOf, refused}
@@ -32,7 +32,7 @@ use Rattle.tick.specs.Digest.{digest}
 use Rattle.table.specs.Form.{portAt, zeroCounts}
 use Rattle.statements.specs.Kept.{closed-number}
 use Rattle.tick.specs.Tick.{movedAt, rankAt, claimAt, keptAt, closedAt, namesA, flagsTaken}
-use Rattle.table.specs.WellMade.{wellCounts, wellPort, wellMade}
+use Rattle.table.specs.WellMade.{illPort, illMade, wellMade}
 use Rattle.table.specs.declared.form.Closed.{Closed}
 use Rattle.table.specs.declared.form.Closed.the-variants.{Ports, Refused}
 use Rattle.table.specs.declared.form.Table.{Table}
@@ -70,7 +70,7 @@ numberIn (Refused k) = 0
 
 -- "a core that refuses always (number table)": by the first statement this tick is answered
 answered-here : firstOf (tickRefusals two both 80) ≡ value
-unfolding two both wellMade atMost every portAt wellPort wellCounts refused field above isDemand some flagsTaken reservedFlags sampleAt wordAt
+unfolding two both wellMade illMade illPort over someBelow every portAt refused field above isDemand some flagsTaken reservedFlags sampleAt wordAt
 answered-here = refl
 
 pub refuses-always : (k : ℕ) → number k ≡ firstOf (tickRefusals two both 80) → ⊥
