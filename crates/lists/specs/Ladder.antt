@@ -4,8 +4,7 @@ use Prim.Native.Nat.{ℕ}
 use mathlib.Core.Path.{_≡_, refl, sym, _∙_, ap}
 use mathlib.Core.Bool.{Bool, true, false, cond}
 use mathlib.Core.List.{List, [], _∷_}
-use Rattle.lists.specs.Table.{all}
-use Rattle.lists.specs.Tests.{and-left, and-right, choice-on}
+use Rattle.lists.specs.Tests.{choice, choice-on}
 
 -- document 01's table of numbers: "Given exactly when"
 abbrev pub ladder : {X : Type 0} → List (ℕ × Bool) → (ℕ → X) → X → X
@@ -26,19 +25,14 @@ module _ {X : Type 0} (P : X → Type 0) (refuse : ℕ → X) (value : X) where
       (λ e. stops (r .0))
       (λ e. ladder-holds rs stops (λ c. goes (e, c)))
 
-  -- the same, where it holds of a refusal by some numbers only, and each number of the list is one of them
-  pub ladder-among : (among : ℕ → Bool) (rs : List (ℕ × Bool)) → all (λ r. among (r .0)) rs ≡ true → ((k : ℕ) → among k ≡ true → P (refuse k)) → (Clear rs → P value)
-      → P (ladder rs refuse value)
-  unfolding all
-  ladder-among among [] e stops goes = goes tt
-  ladder-among among (r ∷ rs) e stops goes =
-      choice-on P (r .1) (refuse (r .0)) (ladder rs refuse value)
-      (λ h. stops (r .0) (and-left (among (r .0)) _ e))
-      (λ h. ladder-among among rs (and-right (among (r .0)) _ e) stops (λ c. goes (h, c)))
+  -- a property that not every number has: it holds of each refusal of the list
+  abbrev pub Each : List (ℕ × Bool) → Type 0
+  Each [] = Unit {0}
+  Each (r ∷ rs) = P (refuse (r .0)) × Each rs
 
--- what no refusal is came by no refusal: no condition holds, and it is the value
-pub ladder-value : {X : Type 0} (refuse : ℕ → X) (value x : X) → ((k : ℕ) → refuse k ≡ x → ⊥) → (rs : List (ℕ × Bool)) → ladder rs refuse value ≡ x → Clear rs × (value ≡ x)
-ladder-value refuse value x never rs = ladder-holds (λ r. r ≡ x → Clear rs × (value ≡ x)) refuse value rs (λ k e. absurd (never k e)) (λ c e. (c, e))
+  pub ladder-each : (rs : List (ℕ × Bool)) → Each rs → P value → P (ladder rs refuse value)
+  ladder-each [] each v = v
+  ladder-each (r ∷ rs) each v = choice P (r .1) (refuse (r .0)) (ladder rs refuse value) (each .0) (ladder-each rs (each .1) v)
 
 -- a part of the answer is that part of the refusal, or of the value
 pub ladder-part : {X Y : Type 0} (part : X → Y) (refuse : ℕ → X) (value : X) (rs : List (ℕ × Bool))
@@ -55,3 +49,7 @@ ladder-part part refuse value (r ∷ rs) = go (r .1) (ladder-part part refuse va
 pub ladder-clear : {X : Type 0} (refuse : ℕ → X) (value : X) (rs : List (ℕ × Bool)) → Clear rs → ladder rs refuse value ≡ value
 ladder-clear refuse value [] c = refl
 ladder-clear refuse value (r ∷ rs) c = ap (λ (b : Bool). cond b (refuse (r .0)) (ladder rs refuse value)) (c .0) ∙ ladder-clear refuse value rs (c .1)
+
+-- what no refusal is came by no refusal: no condition holds, and it is the value
+pub ladder-value : {X : Type 0} (refuse : ℕ → X) (value x : X) → ((k : ℕ) → refuse k ≡ x → ⊥) → (rs : List (ℕ × Bool)) → ladder rs refuse value ≡ x → Clear rs × (value ≡ x)
+ladder-value refuse value x never rs = ladder-holds (λ r. r ≡ x → Clear rs × (value ≡ x)) refuse value rs (λ k e. absurd (never k e)) (λ c e. (c, e))
