@@ -2,27 +2,25 @@
 -- Assumes nothing.
 use Prim.Native.Nat.{ℕ, zero, suc, _*_, _≤_, _<_}
 use mathlib.Core.Path.{_≡_, refl, sym, _∙_, ap, subst}
-use mathlib.Core.Bool.{Bool, true, false, cond, _&&_, _||_}
+use mathlib.Core.Bool.{Bool, true, false, cond}
 use mathlib.Core.List.{List, [], _∷_}
 use mathlib.Core.Logic.{_⊎_, inl, inr, ⊎-elim}
 use native.Mathlib.Omega.{arith}
-use lib.Dec.{leb, ltb, eqb}
+use lib.Dec.{leb, eqb}
 use lib.ListN.{length, getD, set, getD-replicate}
-use borrow.Author.Tests.{ltb-true, leb-true, le-leb, lt-ltb}
+use borrow.Author.Tests.{leb-true, leb-false, le-leb, le-ltb, lt-ltb, ne-eqb}
+use Rattle.lists.specs.Ladder.{ladder-holds}
 use Rattle.lists.specs.Tests.{choice-on}
-use Rattle.power.specs.Power.{forced, tenths, highestSupply, atMost, fits, sumOf, supplyOf}
+use Rattle.power.specs.Power.{forced, tenths, highestSupply, atMost, supplyOf}
 use Rattle.power.specs.declared.Supply.the-variants.{Is, TooLarge}
-use Rattle.reading.specs.Class.{budgetOf}
 use Rattle.reading.specs.Laws.{budget-is-demand}
 use Rattle.reading.specs.Sample.{sampleAt}
-use Rattle.words.specs.Control.{refused}
 use Rattle.settling.specs.Settle.{settled}
 use Rattle.diagram.specs.Step.{step}
 use Rattle.port.specs.declared.form.Port.{Port}
 use Rattle.port.specs.declared.form.State.{State}
-use Rattle.port.specs.States.{inDisabled, inPowerOn, isIdle}
-use Rattle.calls.specs.Calls.{coldPort, coldTable, coldStart, sameAlternative, withControl, controlled, writeControl, unlatched, statusAt, readStatus, levelOf, demanding, granting, requested, request}
-use Rattle.table.specs.Drawn.{closedSum}
+use Rattle.port.specs.States.{isIdle}
+use Rattle.calls.specs.Calls.{coldPort, coldTable, coldStart, withControl, controlRefusals, writeControl, unlatched, statusRefusals, statusAt, readStatus, levelOf, demanding, requestRefusals, request}
 use Rattle.tick.specs.Digest.{digest}
 use Rattle.table.specs.Form.{noPort, portAt, withPort, done, refuse, tells, refuseStatus, refuseTick}
 use Rattle.statements.specs.Kept.{after-well, controlled-well, unlatched-well, demanding-well, cold-well, port-after-at}
@@ -59,43 +57,22 @@ unfolding withPort portAt
 changed p q t e w = record { count = refl; well = w; states = part-kept (λ (x : Port). x .state) (t .ports) p q noPort e }
 
 control-keeps : (t : Table) (p w : ℕ) → Keeps t (writeControl t p w .table)
-unfolding writeControl controlled refuse done withControl
+unfolding writeControl refuse done withControl
 control-keeps t p w =
-    choice-on (λ (r : Told). Keeps t (r .table)) (wellMade t) _ _
-    (λ m. choice-on (λ (r : Told). Keeps t (r .table)) (ltb p (t .count)) _ _
-    (λ l. choice-on (λ (r : Told). Keeps t (r .table)) (refused w) _ _
-    (λ e. same t)
-    (λ e. choice-on (λ (r : Told). Keeps t (r .table)) (inDisabled (portAt t p .state) || sameAlternative (portAt t p .control) w) _ _
-    (λ g. changed p (withControl w (portAt t p)) t refl (λ v. controlled-well p w t v (ltb-true p (t .count) l) e))
-    (λ g. same t)))
-    (λ l. same t))
-    (λ m. same t)
+    ladder-holds (λ (r : Told). Keeps t (r .table)) (λ k. refuse k t) _ (controlRefusals t p w) (λ k. same t)
+    (λ c. changed p (withControl w (portAt t p)) t refl (λ v. controlled-well p w t v (leb-false (t .count) p (c .1 .0)) (c .1 .1 .0)))
 
 status-keeps : (t : Table) (p : ℕ) → Keeps t (readStatus t p .table)
 unfolding readStatus statusAt refuseStatus tells unlatched
 status-keeps t p =
-    choice-on (λ (r : StatusRead). Keeps t (r .table)) (wellMade t) _ _
-    (λ m. choice-on (λ (r : StatusRead). Keeps t (r .table)) (ltb p (t .count)) _ _
-    (λ l. changed p (unlatched (portAt t p)) t refl (λ v. unlatched-well p t v (ltb-true p (t .count) l)))
-    (λ l. same t))
-    (λ m. same t)
+    ladder-holds (λ (r : StatusRead). Keeps t (r .table)) (λ k. refuseStatus k t) _ (statusRefusals t p) (λ k. same t)
+    (λ c. changed p (unlatched (portAt t p)) t refl (λ v. unlatched-well p t v (leb-false (t .count) p (c .1 .0))))
 
 request-keeps : (t : Table) (p v : ℕ) → Keeps t (request t p v .table)
-unfolding request requested granting refuse done demanding levelOf
+unfolding request refuse done demanding levelOf
 request-keeps t p v =
-    choice-on (λ (r : Told). Keeps t (r .table)) (wellMade t) _ _
-    (λ m. choice-on (λ (r : Told). Keeps t (r .table)) (ltb p (t .count)) _ _
-    (λ l. choice-on (λ (r : Told). Keeps t (r .table)) (leb 1 v && leb v 255) _ _
-    (λ a. choice-on (λ (r : Told). Keeps t (r .table)) (inPowerOn (portAt t p .state)) _ _
-    (λ b. choice-on (λ (r : Told). Keeps t (r .table)) (atMost (levelOf v) (budgetOf (portAt t p .class))) _ _
-    (λ c. choice-on (λ (r : Told). Keeps t (r .table)) (atMost (levelOf v) (portAt t p .demand) || fits (sumOf (closedSum (withPort p (demanding (levelOf v) (portAt t p)) t))) (t .supply)) _ _
-    (λ g. changed p (demanding (levelOf v) (portAt t p)) t refl (λ w. demanding-well (levelOf v) p t w (ltb-true p (t .count) l) (budget-is-demand _)))
-    (λ g. same t))
-    (λ c. same t))
-    (λ b. same t))
-    (λ a. same t))
-    (λ l. same t))
-    (λ m. same t)
+    ladder-holds (λ (r : Told). Keeps t (r .table)) (λ k. refuse k t) _ (requestRefusals t p v) (λ k. same t)
+    (λ c. changed p (demanding (levelOf v) (portAt t p)) t refl (λ w. demanding-well (levelOf v) p t w (leb-false (t .count) p (c .1 .0)) (budget-is-demand _)))
 
 -- an accepted tick: its table is the tick's, its figure is in range, and it came from a well-made table
 pub record Ran (t : Table) (block : List ℕ) (figure : ℕ) (r : Ticked) : Type 0 where
@@ -152,7 +129,7 @@ call-well t (ticked block figure) e =
 
 cold-table : (n : ℕ) → 1 ≤ n → n ≤ 48 → coldStart n .table ≡ coldTable n
 unfolding coldStart done
-cold-table n a b = simp (le-leb 1 n a, le-leb n 48 b)
+cold-table n a b = simp (ne-eqb n 0 (λ e. omega arith), le-ltb 48 n b)
 
 -- every table that a history reaches is well-made
 pub reached-well : (n : ℕ) → 1 ≤ n → n ≤ 48 → (h : List Call) → wellMade (reached n h) ≡ true

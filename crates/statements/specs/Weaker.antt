@@ -23,7 +23,7 @@ use Rattle.diagram.specs.Rules.{idle, detected, detecting, classed, classifying
 use Rattle.settling.specs.Settle.{rank, granted, shed, settled}
 use Rattle.diagram.specs.Step.{byState, step}
 use Rattle.share.specs.Share.{claims, before, met, sumWhere, down, keeps}
-use Rattle.calls.specs.Calls.{coldTable, coldStart, writeControl, controlled, withControl}
+use Rattle.calls.specs.Calls.{coldTable, coldStart, sameAlternative, writeControl, withControl}
 use Rattle.table.specs.Drawn.{draws, closedSum}
 use Rattle.tick.specs.Digest.{digest}
 use Rattle.table.specs.Form.{portAt, withPort, done}
@@ -66,7 +66,7 @@ pub record Facts : Type 0 where
   pub too-early : shown 1 0 (ticked signs 154 ∷ ticked quiet 154 ∷ control 0 0x0005 ∷ []) ≡ nothing
 
 pub facts : Facts
-unfolding quiet signs gives signed reached after shown adds seen showsSignature givesClass coldStart coldTable done writeControl controlled withControl withPort wellMade illMade illPort over someBelow every portAt refused field above isDemand some flagsTaken reservedFlags sampleAt wordAt tick tickWith supplyOf answered tableAfter tabulate portAfter digest flagsOf bit signatureOf outside byDifferences classOfTwo isFour classOf budgetOf step byState enableOf pairOf up idle detected detecting classifying classed rankAt movedAt rank priorityOf keptAt claimAt keeps claims down sumWhere total met before settled granted enter shed closedSum draws closedAt
+unfolding quiet signs gives signed reached after shown adds seen showsSignature givesClass coldStart coldTable done writeControl sameAlternative withControl withPort wellMade illMade illPort over someBelow every portAt refused field above isDemand some flagsTaken reservedFlags sampleAt wordAt tick tickWith supplyOf answered tableAfter tabulate portAfter digest flagsOf bit signatureOf outside byDifferences classOfTwo isFour classOf budgetOf step byState enableOf pairOf up idle detected detecting classifying classed rankAt movedAt rank priorityOf keptAt claimAt keeps claims down sumWhere total met before settled granted enter shed closedSum draws closedAt
 facts = record { waits = refl; closes = refl; shows-both = refl; adds-up = refl; remembers = refl; opens = refl; forgets = refl; too-early = refl }
 
 -- the masks compared the other way round: false of our core

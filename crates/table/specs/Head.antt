@@ -2,10 +2,10 @@
 -- is the meaning.
 -- Assumes nothing.
 use Prim.Native.Nat.{ℕ}
-use mathlib.Core.Path.{_≡_, refl, _∙_, ap}
-use mathlib.Core.Bool.{Bool, not, _&&_, _||_, and-assoc, or-false, Bool·not-not}
+use mathlib.Core.Path.{_≡_, _∙_}
+use mathlib.Core.Bool.{Bool, not, _&&_, and-assoc, or-false, Bool·not-not}
 use lib.Dec.{leb}
-use Rattle.lists.specs.Every.{every, someBelow, nowhere}
+use Rattle.lists.specs.Every.{every, nowhere}
 use Rattle.lists.specs.Table.{some}
 use Rattle.lists.specs.Tests.{not-or, not-ltb, not-zero}
 use Rattle.power.specs.Power.{atMost, over, highestSupply}

@@ -26,13 +26,7 @@ illPort p =
 -- "ill-made table: port count 0 or over 48; a stored supply over 60,000; or, in a port below the count, .."
 unfoldable pub illMade : Table → Bool
 illMade t =
-    oneHolds (
-      eqb (t .count) 0
-      ∷ ltb 48 (t .count)
-      ∷ over (t .supply) highestSupply
-      ∷ someBelow (t .count) (λ p. illPort (portAt t p))
-      ∷ []
-    )
+    oneHolds (eqb (t .count) 0 ∷ ltb 48 (t .count) ∷ over (t .supply) highestSupply ∷ someBelow (t .count) (λ p. illPort (portAt t p)) ∷ [])
 
 unfoldable pub wellPort : Port → Bool
 wellPort p = not (illPort p)
