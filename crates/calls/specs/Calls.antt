@@ -1,29 +1,26 @@
--- Document 01: the calls of the management side.
+-- Document 01: the calls of the management side. Each has its refusals as a list, in document 01's order, and is the ladder of that list.
 use Prim.Native.Nat.{ℕ}
-use mathlib.Core.Bool.{Bool, true, false, cond, _&&_, _||_}
+use mathlib.Core.Bool.{Bool, cond, not, _&&_, _||_}
+use mathlib.Core.List.{List, [], _∷_}
 use lib.Dec.{leb, ltb, eqb}
 use lib.ListN.{replicate}
 use Rattle.lists.specs.Bits.{field}
-use Rattle.lists.specs.Total.{total}
-use Rattle.power.specs.Power.{zeroPower, atMost, fits, sumOf}
+use Rattle.lists.specs.Ladder.{ladder}
+use Rattle.power.specs.Power.{zeroPower, over, fits, sumOf}
 use Rattle.power.specs.declared.Power.{Power}
 use Rattle.reading.specs.Class.{budgetOf}
 use Rattle.words.specs.Control.{refused}
 use Rattle.words.specs.Status.{noLatches, statusWord}
-use Rattle.words.specs.declared.status.Condition.{Condition}
-use Rattle.words.specs.declared.status.Condition.the-variants.{Disabled as Off, Searching, Delivering, Testing, Faulty}
 use Rattle.port.specs.Form.{withDemand, withLatches}
-use Rattle.port.specs.States.{closed}
 use Rattle.port.specs.declared.form.Port.{Port}
-use Rattle.port.specs.declared.form.State.{State}
-use Rattle.port.specs.declared.form.State.the-variants.{Disabled, Idle, Detecting, Backoff, Classifying, PowerUp, PowerOn, ErrorDelay, TestMode, TestError}
+use Rattle.port.specs.declared.form.State.the-variants.{Disabled}
 use Rattle.port.specs.States.{condition, inDisabled, inPowerOn}
 use Rattle.table.specs.declared.form.Table.{Table}
 use Rattle.table.specs.declared.form.Told.{Told}
 use Rattle.table.specs.declared.form.StatusRead.{StatusRead}
-use Rattle.table.specs.Drawn.{draws, closedSum}
+use Rattle.table.specs.Drawn.{closedSum}
 use Rattle.table.specs.Form.{portAt, withPort, done, refuse, tells, refuseStatus, zeroCounts}
-use Rattle.table.specs.WellMade.{wellMade}
+use Rattle.table.specs.WellMade.{illMade}
 
 -- "A cold start gives every port DISABLED, control 0x0004, no latch, zero counters, class and demand 0, stored supply 0."
 abbrev pub coldPort : Port
@@ -33,13 +30,13 @@ coldPort = record { state = Disabled; class = 0; control = 0x0004; demand = zero
 unfoldable pub coldTable : ℕ → Table
 coldTable count = record { ports = replicate 48 coldPort; count = count; supply = zeroPower }
 
--- refusal 2: "a cold start asked for 0 or over 48 ports"; beside it stands a table of no ports, which every call refuses with 13
-unfoldable pub coldStart : ℕ → Told
-coldStart n = cond (leb 1 n && leb n 48) (done (coldTable n)) (refuse 2 (coldTable 0))
+-- refusal 2, "a cold start asked for 0 or over 48 ports"
+abbrev pub coldRefusals : ℕ → List (ℕ × Bool)
+coldRefusals n = (2, eqb n 0 || ltb 48 n) ∷ []
 
--- a call on a port: "13 first", then 2, "port number not below the port count"
-abbrev pub onPort : {X : Type 0} → (ℕ → Table → X) → (ℕ → Table → X) → Table → ℕ → X
-onPort refusal call t p = cond (wellMade t) (cond (ltb p (t .count)) (call p t) (refusal 2 t)) (refusal 13 t)
+-- beside the number stands a table of no ports, which every call refuses with 13
+unfoldable pub coldStart : ℕ → Told
+coldStart n = ladder (coldRefusals n) (λ k. refuse k (coldTable 0)) (done (coldTable n))
 
 -- two words have the same pair control
 unfoldable pub sameAlternative : ℕ → ℕ → Bool
@@ -48,15 +45,18 @@ sameAlternative v w = eqb (field 2 2 v) (field 2 2 w)
 unfoldable pub withControl : ℕ → Port → Port
 withControl w p = record { state = p .state; class = p .class; control = w; demand = p .demand; latches = p .latches; counts = p .counts }
 
--- "Control word: 2, 3, 5." "A write that changes the alternative of a port not in DISABLED is refused with 5."
-unfoldable pub controlled : ℕ → ℕ → Table → Told
-controlled w p t =
-    cond (refused w) (refuse 3 t)
-    (cond (inDisabled (portAt t p .state) || sameAlternative (portAt t p .control) w) (done (withPort p (withControl w (portAt t p)) t))
-    (refuse 5 t))
+-- "13 first, in every call that takes a table."; "Control word: 2, 3, 5."; refusal 2, "port number not below the port count"; "A write that
+-- changes the alternative of a port not in DISABLED is refused with 5."
+abbrev pub controlRefusals : Table → ℕ → ℕ → List (ℕ × Bool)
+controlRefusals t p w =
+    (13, illMade t)
+    ∷ (2, leb (t .count) p)
+    ∷ (3, refused w)
+    ∷ (5, not (sameAlternative (portAt t p .control) w) && not (inDisabled (portAt t p .state)))
+    ∷ []
 
 unfoldable pub writeControl : Table → ℕ → ℕ → Told
-writeControl t p w = onPort refuse (controlled w) t p
+writeControl t p w = ladder (controlRefusals t p w) (λ k. refuse k t) (done (withPort p (withControl w (portAt t p)) t))
 
 unfoldable pub unlatched : Port → Port
 unlatched p = withLatches noLatches p
@@ -67,8 +67,11 @@ statusAt p t =
     tells (statusWord (portAt t p .latches) (portAt t p .class) (condition (portAt t p .state))) (withPort p (unlatched (portAt t p)) t)
 
 -- "Status: 2."
+abbrev pub statusRefusals : Table → ℕ → List (ℕ × Bool)
+statusRefusals t p = (13, illMade t) ∷ (2, leb (t .count) p) ∷ []
+
 unfoldable pub readStatus : Table → ℕ → StatusRead
-readStatus t p = onPort refuseStatus statusAt t p
+readStatus t p = ladder (statusRefusals t p) (λ k. refuseStatus k t) (statusAt p t)
 
 -- "value 1..38 means demand 40, ..64 means 70, ..129 means 154, ..255 means 300": the budgets of classes 1 to 4
 unfoldable pub levelOf : ℕ → Power
@@ -77,22 +80,25 @@ levelOf v = budgetOf (cond (leb v 38) 1 (cond (leb v 64) 2 (cond (leb v 129) 3 4
 unfoldable pub demanding : Power → Port → Port
 demanding d p = withDemand d p
 
--- "A demand not above the present one is accepted; a higher one exactly if all closed ports' demands with the change are at most
--- the stored supply, else 12. Accepted, it becomes the port's demand; nothing else changes."
-unfoldable pub granting : Power → ℕ → Table → Told
-granting d p t =
-    cond (atMost d (portAt t p .demand) || fits (sumOf (closedSum (withPort p (demanding d (portAt t p)) t))) (t .supply))
-    (done (withPort p (demanding d (portAt t p)) t))
-    (refuse 12 t)
+-- "Accepted, it becomes the port's demand; nothing else changes."
+abbrev pub granting : Power → ℕ → Table → Table
+granting d p t = withPort p (demanding d (portAt t p)) t
 
--- "Request: 2, 10, 5, 11, 12."
-unfoldable pub requested : ℕ → ℕ → Table → Told
-requested v p t =
-    cond (leb 1 v && leb v 255)
-    (cond (inPowerOn (portAt t p .state))
-    (cond (atMost (levelOf v) (budgetOf (portAt t p .class))) (granting (levelOf v) p t) (refuse 11 t))
-    (refuse 5 t))
-    (refuse 10 t)
+-- "A demand not above the present one is accepted; a higher one exactly if all closed ports' demands with the change are at most
+-- the stored supply, else 12."
+unfoldable pub overSupply : Power → ℕ → Table → Bool
+overSupply d p t = over d (portAt t p .demand) && not (fits (sumOf (closedSum (granting d p t))) (t .supply))
+
+-- "Request: 2, 10, 5, 11, 12."; refusal 10, "power value outside 1..255"; "for a port in POWER_ON (else 5)"; "Over the class budget: 11."
+abbrev pub requestRefusals : Table → ℕ → ℕ → List (ℕ × Bool)
+requestRefusals t p v =
+    (13, illMade t)
+    ∷ (2, leb (t .count) p)
+    ∷ (10, ltb v 1 || ltb 255 v)
+    ∷ (5, not (inPowerOn (portAt t p .state)))
+    ∷ (11, over (levelOf v) (budgetOf (portAt t p .class)))
+    ∷ (12, overSupply (levelOf v) p t)
+    ∷ []
 
 unfoldable pub request : Table → ℕ → ℕ → Told
-request t p v = onPort refuse (requested v) t p
+request t p v = ladder (requestRefusals t p v) (λ k. refuse k t) (done (granting (levelOf v) p t))

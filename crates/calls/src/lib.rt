@@ -22,12 +22,15 @@ use words::status::Condition;
 use words::status::Latches;
 use words::status::status_word;
 ghost use mathlib.Core.Path.{_≡_};
-ghost use mathlib.Core.Bool.{_||_};
+ghost use mathlib.Core.Bool.{cond, _||_};
 ghost use Prim.Native.Nat.{_<_, _≤_, _^_};
 ghost use Rattle.power.specs.Power.{sumOf};
 ghost use Rattle.port.specs.States.{inDisabled, condition, inPowerOn};
-ghost use Rattle.calls.specs.Calls.{coldTable, coldStart, sameAlternative, withControl, controlled, writeControl, unlatched, statusAt, readStatus, levelOf, demanding, granting, requested, request};
+ghost use lib.ListN.{drop};
+ghost use Rattle.lists.specs.Ladder.{ladder};
+ghost use Rattle.calls.specs.Calls.{coldTable, coldStart, sameAlternative, withControl, controlRefusals, writeControl, unlatched, statusAt, readStatus, levelOf, demanding, granting, overSupply, requestRefusals, request};
 ghost use Rattle.table.specs.Drawn.{draws, closedSum};
+ghost use Rattle.table.specs.Form.{portAt, withPort, done, refuse};
 
 const COLD: Port = Port {
     state: State::Disabled,
@@ -96,7 +99,7 @@ fn same_alternative(v: u16, w: u16) -> bool
 }
 
 fn may_write(state: State, present: u16, word: u16) -> bool
-    ensures { λ r. ⌜ r ≡ (inDisabled state || sameAlternative present word) ⌝ }
+    ensures { λ r. ⌜ r ≡ (sameAlternative present word || inDisabled state) ⌝ }
 {
     if is_in_disabled(state) {
         return true;
@@ -110,9 +113,10 @@ fn with_control(control: u16, port: Port) -> Port
     Port { control, ..port }
 }
 
+// What the ladder asks after 13 and 2.
 fn controlled_port(table: Table, port: usize, word: u64) -> Told
     requires { ⌜ port < 48 ⌝ }
-    ensures { λ r. ⌜ r ≡ controlled word port table ⌝ }
+    ensures { λ r. ⌜ r ≡ ladder (drop 2 (controlRefusals table port word)) (λ k. refuse k table) (done (withPort port (withControl word (portAt table port)) table)) ⌝ }
 {
     if words::control::refused(word) {
         return refuse(3, table);
@@ -252,7 +256,7 @@ fn with_demand(demand: Power, port: Port) -> Port
 // A demand not above the present one needs no look at the supply.
 fn grant(demand: Power, table: Table, port: usize) -> Told
     requires { ⌜ (port < 48) × (table .count ≤ 48) ⌝ }
-    ensures { λ r. ⌜ r ≡ granting demand port table ⌝ }
+    ensures { λ r. ⌜ r ≡ cond (overSupply demand port table) (refuse 12 table) (done (granting demand port table)) ⌝ }
 {
     let present = port_at(table, port);
     let after = with_port(port, with_demand(demand, present), table);
@@ -265,9 +269,10 @@ fn grant(demand: Power, table: Table, port: usize) -> Told
     refuse(12, table)
 }
 
+// What the ladder asks after 13 and 2.
 fn requested_of(table: Table, port: usize, value: u64) -> Told
     requires { ⌜ (port < 48) × (table .count ≤ 48) ⌝ }
-    ensures { λ r. ⌜ r ≡ requested value port table ⌝ }
+    ensures { λ r. ⌜ r ≡ ladder (drop 2 (requestRefusals table port value)) (λ k. refuse k table) (done (granting (levelOf value) port table)) ⌝ }
 {
     if value < 1 {
         return refuse(10, table);

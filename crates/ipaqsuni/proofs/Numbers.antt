@@ -1,7 +1,7 @@
 -- The nine numbers of a TLV's fields: what was looked at, and what fits.
 -- Assumes nothing.
-use mathlib.Core.Path.{_≡_, refl, sym}
-use mathlib.Core.Bool.{Bool, true, false, cond, _||_, not}
+use mathlib.Core.Path.{_≡_, refl}
+use mathlib.Core.Bool.{Bool, true, false, cond, _||_}
 use mathlib.Core.List.{List}
 use Prim.Native.Nat.{ℕ, _≤_, _<_, _^_}
 use native.Mathlib.Omega.{arith}
@@ -9,9 +9,10 @@ use lib.Dec.{eqb, ltb}
 use lib.ListN.{getD}
 use borrow.Author.Tests.{le-ltb, ltb-false}
 use Rattle.lists.specs.Bits.{field}
+use Rattle.lists.specs.Ladder.{ladder-value}
 use Rattle.tlv.specs.Fields.{outside, badValues}
 use Rattle.tlv.specs.Header.{lengthAt}
-use Rattle.tlv.specs.Read.{cut, exactlyOne, addedIn, formIn, fieldsIn, readOf}
+use Rattle.tlv.specs.Read.{addedIn, formIn, fieldsIn, readRefusals, readOf}
 use Rattle.tlv.specs.Write.{writtenOf, roomAfter}
 use Rattle.tlv.specs.declared.fields.Fields.{Fields}
 use Rattle.tlv.specs.declared.fields.Form.the-variants.{Short, Long}
@@ -41,13 +42,6 @@ pub third : (n : List ℕ) → noForm (getD n 0 0) ≡ false → getD n 1 0 ≤ 
 unfolding noFields
 third n e h k = simp (e, le-ltb _ _ h, le-ltb _ _ k)
 
--- only the last of four cases takes a TLV
-last : (a b c : Bool) (x f : Fields) → cond a (NotTaken 6) (cond b (NotTaken 9) (cond c (NotTaken 10) (Took x))) ≡ Took f → (c ≡ false) × (x ≡ f)
-last true b c x f e = let z : _≡_ {A = ℕ} 0 1 = cc in absurd (omega arith)
-last false true c x f e = let z : _≡_ {A = ℕ} 0 1 = cc in absurd (omega arith)
-last false false true x f e = let z : _≡_ {A = ℕ} 0 1 = cc in absurd (omega arith)
-last false false false x f e = (refl, cc)
-
 inside : (v : ℕ) → outside v ≡ false → v < 2 ^ 32
 unfolding outside
 inside v e = omega (arith, ltb-false 255 v (neither (ltb v 1) _ e .1))
@@ -63,8 +57,9 @@ narrow-form bytes false e =
 pub narrow : (bytes : List ℕ) (f : Fields) → readOf bytes ≡ Took f → Narrow (f .form)
 unfolding readOf formIn fieldsIn
 narrow bytes f e =
-    let h = last (cut bytes) (not (exactlyOne bytes)) (badValues (formIn bytes)) (fieldsIn bytes) f e in
-    rw (sym (h .1)) (narrow-form bytes (eqb (lengthAt bytes 0) 7) (h .0))
+    let h = ladder-value NotTaken (Took (fieldsIn bytes)) (Took f) (λ k q. let z : _≡_ {A = ℕ} 0 1 = cc in omega arith) (readRefusals bytes) e in
+    let same : f ≡ fieldsIn bytes = cc in
+    rw same (narrow-form bytes (eqb (lengthAt bytes 0) 7) (h .0 .1 .1 .0))
 
 module _ (n room : List ℕ) where
   pub not-given : noFields n ≡ true → writeCall n room ≡ refused 3

@@ -2,28 +2,24 @@
 -- the next one as the table that the core gave.
 -- Assumes nothing.
 use mathlib.Core.Path.{_≡_, refl, _∙_}
-use mathlib.Core.Bool.{true, _&&_, _||_, not}
-use mathlib.Core.List.{List, [], _∷_}
+use mathlib.Core.Bool.{true}
+use mathlib.Core.List.{List}
 use Prim.Native.Nat.{ℕ, _+_, _*_, _≤_}
 use native.Mathlib.Omega.{arith}
-use lib.Dec.{eqb, leb, ltb}
+use lib.Dec.{eqb}
 use lib.ListN.{length, length-set, length-replicate}
+use borrow.Author.Needs.{needs}
+use Rattle.lists.specs.Ladder.{ladder-each}
 use Rattle.lists.specs.Places.{length-tabulate}
 use Rattle.lists.specs.Tests.{choice}
-use Rattle.power.specs.Power.{supplyOf, atMost, fits, sumOf}
+use Rattle.power.specs.Power.{tenths}
 use Rattle.power.specs.declared.Power.{Power}
-use Rattle.power.specs.declared.Supply.{Supply}
-use Rattle.power.specs.declared.Supply.the-variants.{Is, TooLarge}
-use Rattle.reading.specs.Class.{budgetOf}
-use Rattle.words.specs.Control.{refused as refusedWord}
 use Rattle.port.specs.declared.form.Port.{Port}
-use Rattle.table.specs.Form.{portAt, withPort, done, refuse, tells, refuseStatus, refuseTick}
-use Rattle.port.specs.States.{inDisabled, inPowerOn}
-use Rattle.calls.specs.Calls.{coldPort, coldTable, coldStart, sameAlternative, levelOf, demanding, controlled, writeControl, statusAt, readStatus, granting, requested, request}
-use Rattle.table.specs.Drawn.{closedSum}
+use Rattle.table.specs.Form.{withPort, done, refuse, tells, refuseStatus, refuseTick}
+use Rattle.calls.specs.Calls.{coldPort, coldTable, coldRefusals, coldStart, controlRefusals, writeControl, statusRefusals, statusAt, readStatus, requestRefusals, request}
 use Rattle.boards.specs.Sharing.{portAfter, tableAfter}
 use Rattle.boards.specs.Masks.{answered as tickAnswered}
-use Rattle.tick.specs.Tick.{movedAt, tick, flagsReserved}
+use Rattle.tick.specs.Tick.{movedAt, tickRefusals, tick}
 use Rattle.table.specs.WellMade.{wellMade}
 use Rattle.table.specs.declared.form.Table.{Table}
 use Rattle.table.specs.declared.form.Told.{Told}
@@ -33,14 +29,12 @@ use Rattle.image.specs.Image.{imageOf, stores}
 use Rattle.image.specs.Laws.{reads-back}
 use Rattle.image.specs.Load.{portIn, tableOf, reads, loaded}
 use Rattle.image.specs.declared.load.Loaded.{Loaded}
-use Rattle.tlv.specs.Fields.{badValues}
-use Rattle.tlv.specs.Read.{cut, exactlyOne, formIn, readOf}
-use Rattle.tlv.specs.Search.{isCut, powers, theOne, answerTo, searchOf}
-use Rattle.tlv.specs.Walk.{walkFrom}
-use Rattle.tlv.specs.Write.{badCodes, bytesOf, writtenOf, roomAfter}
-use Rattle.tlv.specs.declared.read.Taken.{Taken}
-use Rattle.tlv.specs.declared.search.Searched.{Searched}
-use Rattle.tlv.specs.declared.write.Written.{Written}
+use Rattle.tlv.specs.Read.{readRefusals, readOf}
+use Rattle.tlv.specs.Search.{searchRefusals, searchOf}
+use Rattle.tlv.specs.Write.{writeRefusals, writtenOf, roomAfter}
+use Rattle.tlv.specs.declared.read.Taken.the-variants.{Refused as NotTaken}
+use Rattle.tlv.specs.declared.search.Searched.the-variants.{Refused as NotFound}
+use Rattle.tlv.specs.declared.write.Written.the-variants.{Refused as NotWritten}
 use Rattle.ipaqsuni.specs.Outcome.{Outcome, refused, accepted, numberOf, leaves}
 use Rattle.ipaqsuni.specs.Calls.{ofTold, ofStatus, ofTick, lent, coldCall, controlCall, statusCall, requestCall, tickCall}
 use Rattle.ipaqsuni.specs.Tlv.{ofSearch, ofRead, ofWrite, findCall, readCall, noFields, fieldsGiven, writeCall}
@@ -101,54 +95,25 @@ FairTick told = Fair (λ m. m .table) (ofTick told)
 
 cold-fair : (n : ℕ) → FairTold (coldStart n)
 unfolding coldStart done refuse
-cold-fair n = choice FairTold (leb 1 n && leb n 48) _ _ (cold-whole n) (omega arith)
+cold-fair n = ladder-each FairTold (λ k. refuse k (coldTable 0)) _ (coldRefusals n) (search needs) (cold-whole n)
 
 module _ (t : Table) (h : Whole t) where
   control-fair : (p w : ℕ) → FairTold (writeControl t p w)
-  unfolding writeControl controlled done refuse
-  control-fair p w =
-      choice FairTold (wellMade t) _ _
-      (choice FairTold (ltb p (t .count)) _ _
-      (choice FairTold (refusedWord w) _ _ (omega arith)
-      (choice FairTold (inDisabled (portAt t p .state) || sameAlternative (portAt t p .control) w) _ _ (with-whole p _ t h) (omega arith)))
-      (omega arith))
-      (omega arith)
+  unfolding writeControl done refuse
+  control-fair p w = ladder-each FairTold (λ k. refuse k t) _ (controlRefusals t p w) (search needs) (with-whole p _ t h)
 
   status-fair : (p : ℕ) → FairStatus (readStatus t p)
   unfolding readStatus statusAt tells refuseStatus
-  status-fair p = choice FairStatus (wellMade t) _ _ (choice FairStatus (ltb p (t .count)) _ _ (with-whole p _ t h) (omega arith)) (omega arith)
-
-  granting-fair : (d : Power) (p : ℕ) → FairTold (granting d p t)
-  unfolding granting done refuse
-  granting-fair d p =
-      choice FairTold (atMost d (portAt t p .demand) || fits (sumOf (closedSum (withPort p (demanding d (portAt t p)) t))) (t .supply)) _ _
-      (with-whole p (demanding d (portAt t p)) t h)
-      (omega arith)
+  status-fair p = ladder-each FairStatus (λ k. refuseStatus k t) _ (statusRefusals t p) (search needs) (with-whole p _ t h)
 
   request-fair : (p v : ℕ) → FairTold (request t p v)
-  unfolding request requested refuse
-  request-fair p v =
-      choice FairTold (wellMade t) _ _
-      (choice FairTold (ltb p (t .count)) _ _
-      (choice FairTold (leb 1 v && leb v 255) _ _
-      (choice FairTold (inPowerOn (portAt t p .state)) _ _
-      (choice FairTold (atMost (levelOf v) (budgetOf (portAt t p .class))) _ _ (granting-fair (levelOf v) p) (omega arith))
-      (omega arith))
-      (omega arith))
-      (omega arith))
-      (omega arith)
-
-with-fair : (s : Supply) (t : Table) (block : List ℕ) → FairTick (tickWith s t block)
-unfolding tickAnswered refuseTick
-with-fair TooLarge t block = omega arith
-with-fair (Is supply) t block = choice FairTick (flagsReserved t block) _ _ (after-whole t block supply) (omega arith)
+  unfolding request done refuse
+  request-fair p v = ladder-each FairTold (λ k. refuse k t) _ (requestRefusals t p v) (search needs) (with-whole p _ t h)
 
 tick-fair : (t : Table) (block : List ℕ) (figure : ℕ) → FairTick (tick t block figure)
-unfolding tick refuseTick
+unfolding tick tickAnswered refuseTick
 tick-fair t block figure =
-    choice FairTick (wellMade t) _ _
-    (choice FairTick (eqb (length block) (14 * t .count)) _ _ (with-fair (supplyOf figure) t block) (omega arith))
-    (omega arith)
+    ladder-each FairTick (λ k. refuseTick k t) _ (tickRefusals t block figure) (search needs) (after-whole t block (tenths figure))
 
 lent-fair : {X : Type 0} (table : X → Table) (bytes : List ℕ) (call : Table → Outcome X) → ((t : Table) → Whole t → Fair table (call t)) → Fair table (lent bytes call)
 lent-fair table bytes call fair = choice (Fair table) (loaded bytes .ok) _ _ (fair (loaded bytes .table) (loaded-whole bytes)) (omega arith)
@@ -177,39 +142,19 @@ abbrev pub Numbered : {X : Type 0} → Outcome X → Type 0
 Numbered (refused number) = 1 ≤ number
 Numbered (accepted x) = Unit {0}
 
-abbrev NumberedSearch : Searched → Type 0
-NumberedSearch s = Numbered (ofSearch s)
-
-abbrev NumberedRead : Taken → Type 0
-NumberedRead t = Numbered (ofRead t)
-
-one-numbered : (bytes at : List ℕ) → NumberedSearch (theOne bytes at)
-unfolding theOne
-one-numbered bytes [] = omega arith
-one-numbered bytes (at ∷ []) = tt
-one-numbered bytes (at ∷ (next ∷ rest)) = omega arith
-
 pub record Frames : Type 0 where
   pub find : (pdu : List ℕ) → Numbered (findCall pdu)
   pub read : (tlv : List ℕ) → Numbered (readCall tlv)
   pub write : (numbers room : List ℕ) → Numbered (writeCall numbers room)
 
 pub frames : Frames
-unfolding findCall searchOf answerTo readCall readOf writeCall writtenOf
+unfolding findCall searchOf readCall readOf writeCall writtenOf
 frames =
     record {
-      find = λ pdu.
-          choice NumberedSearch (ltb 1500 (length pdu)) _ _ (omega arith)
-          (choice NumberedSearch (isCut (walkFrom pdu 0)) _ _ (omega arith) (one-numbered pdu (powers pdu (walkFrom pdu 0))));
-      read = λ tlv.
-          choice NumberedRead (cut tlv) _ _ (omega arith)
-          (choice NumberedRead (not (exactlyOne tlv)) _ _ (omega arith)
-          (choice NumberedRead (badValues (formIn tlv)) _ _ (omega arith) tt));
+      find = λ pdu. ladder-each (λ s. Numbered (ofSearch s)) NotFound _ (searchRefusals pdu) (search needs) tt;
+      read = λ tlv. ladder-each (λ r. Numbered (ofRead r)) NotTaken _ (readRefusals tlv) (search needs) tt;
       write = λ n room.
           let f = fieldsGiven n in
-          let P : Written → Type 0 = λ w. Numbered (ofWrite (roomAfter f room) w) in
           choice Numbered (noFields n) _ _ (omega arith)
-          (choice P (badCodes (f .form)) _ _ (omega arith)
-          (choice P (badValues (f .form)) _ _ (omega arith)
-          (choice P (ltb (length room) (length (bytesOf f))) _ _ (omega arith) tt)));
+          (ladder-each (λ w. Numbered (ofWrite (roomAfter f room) w)) NotWritten _ (writeRefusals f room) (search needs) tt);
     }

@@ -49,3 +49,7 @@ ladder-part part refuse value (r ∷ rs) = go (r .1) (ladder-part part refuse va
 pub ladder-clear : {X : Type 0} (refuse : ℕ → X) (value : X) (rs : List (ℕ × Bool)) → Clear rs → ladder rs refuse value ≡ value
 ladder-clear refuse value [] c = refl
 ladder-clear refuse value (r ∷ rs) c = ap (λ (b : Bool). cond b (refuse (r .0)) (ladder rs refuse value)) (c .0) ∙ ladder-clear refuse value rs (c .1)
+
+-- what no refusal is came by no refusal: no condition holds, and it is the value
+pub ladder-value : {X : Type 0} (refuse : ℕ → X) (value x : X) → ((k : ℕ) → refuse k ≡ x → ⊥) → (rs : List (ℕ × Bool)) → ladder rs refuse value ≡ x → Clear rs × (value ≡ x)
+ladder-value refuse value x never rs = ladder-holds (λ r. r ≡ x → Clear rs × (value ≡ x)) refuse value rs (λ k e. absurd (never k e)) (λ c e. (c, e))

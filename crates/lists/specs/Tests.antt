@@ -2,7 +2,17 @@
 -- Assumes nothing.
 use mathlib.Core.Path.{_≡_, refl, sym, _∙_}
 use mathlib.Core.Bool.{Bool, true, false, cond, not, _&&_, _||_, false≢true, true≢false}
+use mathlib.Core.List.{List, [], _∷_}
 use mathlib.Core.Logic.{_⊎_, inl, inr}
+use Prim.Native.Nat.{ℕ}
+use native.Mathlib.Omega.{arith}
+use lib.Dec.{eqb, leb, ltb}
+use borrow.Author.Tests.{ltb-true, ltb-false, leb-true, leb-false, eqb-true, eqb-false, lt-ltb, le-ltb, le-leb, lt-leb}
+
+-- one of these conditions holds
+abbrev pub oneHolds : List Bool → Bool
+oneHolds [] = false
+oneHolds (b ∷ bs) = b || oneHolds bs
 
 -- a test is passed or not
 pub passed : (a : Bool) → (a ≡ true) ⊎ (a ≡ false)
@@ -47,6 +57,28 @@ fails-right false b e = e
 pub not-or : (a b : Bool) → not (a || b) ≡ (not a && not b)
 not-or true b = refl
 not-or false b = refl
+
+-- a comparison that fails is the other one
+pub not-ltb : (a b : ℕ) → not (ltb a b) ≡ leb b a
+not-ltb a b = go (ltb a b) refl
+  where
+    go : (t : Bool) → ltb a b ≡ t → not t ≡ leb b a
+    go true e = sym (lt-leb b a (ltb-true a b e))
+    go false e = sym (le-leb b a (ltb-false a b e))
+
+pub not-leb : (a b : ℕ) → not (leb a b) ≡ ltb b a
+not-leb a b = go (leb a b) refl
+  where
+    go : (t : Bool) → leb a b ≡ t → not t ≡ ltb b a
+    go true e = sym (le-ltb b a (leb-true a b e))
+    go false e = sym (lt-ltb b a (leb-false a b e))
+
+pub not-zero : (n : ℕ) → not (eqb n 0) ≡ leb 1 n
+not-zero n = go (eqb n 0) refl
+  where
+    go : (t : Bool) → eqb n 0 ≡ t → not t ≡ leb 1 n
+    go true e = sym (lt-leb 1 n (omega (arith, eqb-true n 0 e)))
+    go false e = sym (le-leb 1 n (omega (arith, eqb-false n 0 e)))
 
 module _ {X : Type 0} (P : X → Type 0) where
   -- a choice of two that are right is right

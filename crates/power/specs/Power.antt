@@ -3,7 +3,7 @@ use Prim.Native.Nat.{ℕ, _+_, _<_, _^_, min}
 use mathlib.Core.Path.{_≡_, ap}
 use mathlib.Core.Bool.{Bool, cond}
 use native.Mathlib.Omega.{arith}
-use lib.Dec.{leb, eqb}
+use lib.Dec.{leb, ltb, eqb}
 use Rattle.power.specs.declared.Power.{Power}
 use Rattle.power.specs.declared.Sum.{Sum}
 use Rattle.power.specs.declared.Supply.{Supply}
@@ -27,6 +27,10 @@ highestSupply = tenths 60000
 -- a power is at most another
 unfoldable pub atMost : Power → Power → Bool
 atMost a b = leb (a .0) (b .0)
+
+-- and over it
+unfoldable pub over : Power → Power → Bool
+over a b = ltb (b .0) (a .0)
 
 unfoldable pub same : Power → Power → Bool
 same a b = eqb (a .0) (b .0)

@@ -7,10 +7,10 @@ use mathlib.Core.Bool.{Bool, true, false}
 use mathlib.Core.List.{List, [], _∷_, _++_, map}
 use lib.ListN.{replicate}
 use Rattle.lists.specs.Bits.{field, above}
-use Rattle.lists.specs.Every.{every}
+use Rattle.lists.specs.Every.{every, someBelow}
 use Rattle.lists.specs.Table.{some}
 use Rattle.lists.specs.Total.{total}
-use Rattle.power.specs.Power.{tenths, atMost, fits, supplyOf}
+use Rattle.power.specs.Power.{tenths, over, fits, supplyOf}
 use Rattle.reading.specs.Class.{budgetOf, isDemand}
 use Rattle.reading.specs.Sample.{wordAt, sampleAt, reservedFlags}
 use Rattle.words.specs.Control.{refused}
@@ -20,12 +20,12 @@ use Rattle.port.specs.declared.form.Port.{Port}
 use Rattle.port.specs.declared.form.State.{State}
 use Rattle.port.specs.declared.form.State.the-variants.{Disabled, Idle, Detecting, Backoff, Classifying, PowerUp, PowerOn, ErrorDelay, TestMode, TestError}
 use Rattle.port.specs.States.{condition}
-use Rattle.calls.specs.Calls.{coldPort, coldTable, coldStart, sameAlternative, withControl, controlled, writeControl, unlatched, statusAt, readStatus, levelOf, demanding, granting, requested, request}
+use Rattle.calls.specs.Calls.{coldPort, coldTable, coldStart, sameAlternative, withControl, writeControl, unlatched, statusAt, readStatus, levelOf, demanding, overSupply, request}
 use Rattle.table.specs.Drawn.{draws, closedSum}
 use Rattle.table.specs.Form.{zeroCounts, portAt, withPort, done, refuse, tells, refuseStatus, refuseTick}
 use Rattle.boards.specs.Masks.{answered}
 use Rattle.tick.specs.Tick.{tick, flagsReserved}
-use Rattle.table.specs.WellMade.{wellCounts, wellPort, wellMade}
+use Rattle.table.specs.WellMade.{illPort, illMade}
 use Rattle.table.specs.declared.form.Answer.the-variants.{Done}
 use Rattle.table.specs.declared.form.Status.the-variants.{Word}
 use Rattle.table.specs.declared.form.Table.{Table}
@@ -77,7 +77,7 @@ tables =
     ∷ []
 
 pub tables-hold : map (λ (r : Table × Bool). wellMade (r .0)) tables ≡ map (λ (r : Table × Bool). r .1) tables
-unfolding tables wellMade wellPort wellCounts atMost every portAt refused field above isDemand some
+unfolding tables wellMade illMade illPort over someBelow portAt refused field above isDemand some
 tables-hold = refl
 
 pub data Question : Type 0 where
@@ -149,7 +149,7 @@ calls =
     ∷ []
 
 pub calls-hold : map (λ (r : Question × Outcome). meaning (r .0)) calls ≡ map (λ (r : Question × Outcome). r .1) calls
-unfolding calls meaning coldStart coldTable done refuse writeControl controlled sameAlternative withControl withPort request requested granting demanding levelOf budgetOf closedSum draws total fits wellMade wellPort wellCounts atMost every portAt refused field above isDemand some readStatus statusAt tells refuseStatus tick flagsReserved reservedFlags sampleAt wordAt refuseTick answered
+unfolding calls meaning coldStart coldTable done refuse writeControl sameAlternative withControl withPort request overSupply demanding levelOf budgetOf closedSum draws total fits illMade illPort over someBelow portAt refused field above isDemand some readStatus statusAt tells refuseStatus tick flagsReserved reservedFlags sampleAt wordAt refuseTick answered
 calls-hold = refl
 
 -- "value 1..38 means demand 40, ..64 means 70, ..129 means 154, ..255 means 300"
@@ -173,10 +173,10 @@ abbrev cleared : Port
 cleared = record { state = PowerOn; class = 2; control = 0x0005; demand = tenths 70; latches = noLatches; counts = counts 1 2 3 4 5 6 7 }
 
 pub status-clears : readStatus (table 2 300 latched latched) 1 ≡ record { table = table 2 300 latched cleared; answer = Word 0x1FA5 }
-unfolding readStatus statusAt unlatched tells statusWord withPort wellMade wellPort wellCounts atMost every portAt refused field above isDemand some
+unfolding readStatus statusAt unlatched tells statusWord withPort illMade illPort over someBelow portAt refused field above isDemand some
 status-clears = refl
 
 -- "Accepted, it becomes the port's demand; nothing else changes."
 pub request-changes-its-demand : request (table 2 300 (port PowerOn 3 0x0005 40 zeroCounts) latched) 0 129 ≡ record { table = table 2 300 (port PowerOn 3 0x0005 154 zeroCounts) latched; answer = Done }
-unfolding request requested granting demanding levelOf budgetOf closedSum draws total fits done withPort wellMade wellPort wellCounts atMost every portAt refused field above isDemand some
+unfolding request overSupply demanding levelOf budgetOf closedSum draws total fits done withPort illMade illPort over someBelow portAt refused field above isDemand some
 request-changes-its-demand = refl

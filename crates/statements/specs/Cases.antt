@@ -12,7 +12,7 @@ use Rattle.reading.specs.declared.class.Class.the-variants.{Is, Failure}
 use Rattle.reading.specs.declared.signature.Signature.the-variants.{Valid, Invalid, Open}
 use Rattle.share.specs.Cases.{threeKept}
 use Rattle.share.specs.Share.{claims, before, met, sumWhere, down, keeps}
-use Rattle.tlv.specs.Search.{isCut, powers, theOne, answerTo, searchOf}
+use Rattle.tlv.specs.Search.{isCut, powers, searchOf}
 use Rattle.tlv.specs.Walk.{walk, walkFrom}
 use Rattle.tlv.specs.declared.search.Searched.the-variants.{Refused}
 use Rattle.statements.specs.Rows.{Row, Holds, meaning, differences, class, sharing, pdu, shows, is-class, stay, searched}
@@ -38,5 +38,5 @@ cases =
     ∷ []
 
 pub cases-hold : Holds cases
-unfolding cases meaning signatureOf outside byDifferences classOf threeKept tabulate keeps down sumWhere total met before claims searchOf answerTo theOne powers isCut walkFrom walk
+unfolding cases meaning signatureOf outside byDifferences classOf threeKept tabulate keeps down sumWhere total met before claims searchOf powers isCut walkFrom walk
 cases-hold = refl

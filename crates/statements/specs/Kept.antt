@@ -24,7 +24,7 @@ use Rattle.tick.specs.Digest.{digest}
 use Rattle.tick.specs.Tick.{movedAt}
 use Rattle.table.specs.Form.{noPort, portAt, withPort}
 use Rattle.table.specs.Well.{Well, well-of, WellTable, table-of, table-test}
-use Rattle.table.specs.WellMade.{wellCounts, wellPort, wellMade}
+use Rattle.table.specs.WellMade.{illPort, wellPort, wellMade}
 use Rattle.statements.specs.Well.{digest-well, step-well}
 
 -- ---- the tick
@@ -80,7 +80,7 @@ demanding-well d p t e l g =
 
 -- ---- the cold start
 pub cold-well : (n : ℕ) → 1 ≤ n → n ≤ 48 → wellMade (coldTable n) ≡ true
-unfolding coldTable portAt wellPort wellCounts refused isDemand some atMost field above
+unfolding coldTable portAt wellPort illPort refused isDemand some atMost field above
 cold-well n h k =
     table-test (coldTable n)
     (record {

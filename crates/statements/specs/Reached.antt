@@ -2,35 +2,31 @@
 -- Assumes nothing.
 use Prim.Native.Nat.{ℕ, zero, suc, _*_, _≤_, _<_}
 use mathlib.Core.Path.{_≡_, refl, sym, _∙_, ap, subst}
-use mathlib.Core.Bool.{Bool, true, false, cond, _&&_, _||_}
+use mathlib.Core.Bool.{Bool, true, false, cond}
 use mathlib.Core.List.{List, [], _∷_}
 use mathlib.Core.Logic.{_⊎_, inl, inr, ⊎-elim}
 use native.Mathlib.Omega.{arith}
-use lib.Dec.{leb, ltb, eqb}
-use lib.ListN.{length, getD, set, getD-replicate}
-use borrow.Author.Tests.{ltb-true, leb-true, le-leb, lt-ltb}
+use lib.ListN.{getD, set, getD-replicate}
+use borrow.Author.Tests.{leb-false, ltb-false, le-leb, le-ltb, ne-eqb}
+use Rattle.lists.specs.Ladder.{ladder-holds}
 use Rattle.lists.specs.Tests.{choice-on}
-use Rattle.power.specs.Power.{forced, tenths, highestSupply, atMost, fits, sumOf, supplyOf}
-use Rattle.power.specs.declared.Supply.the-variants.{Is, TooLarge}
-use Rattle.reading.specs.Class.{budgetOf}
+use Rattle.power.specs.Power.{forced, tenths, highestSupply, atMost}
 use Rattle.reading.specs.Laws.{budget-is-demand}
 use Rattle.reading.specs.Sample.{sampleAt}
-use Rattle.words.specs.Control.{refused}
 use Rattle.settling.specs.Settle.{settled}
 use Rattle.diagram.specs.Step.{step}
 use Rattle.port.specs.declared.form.Port.{Port}
 use Rattle.port.specs.declared.form.State.{State}
-use Rattle.port.specs.States.{inDisabled, inPowerOn, isIdle}
-use Rattle.calls.specs.Calls.{coldPort, coldTable, coldStart, sameAlternative, withControl, controlled, writeControl, unlatched, statusAt, readStatus, levelOf, demanding, granting, requested, request}
-use Rattle.table.specs.Drawn.{closedSum}
+use Rattle.port.specs.States.{isIdle}
+use Rattle.calls.specs.Calls.{coldPort, coldTable, coldStart, withControl, controlRefusals, writeControl, unlatched, statusRefusals, statusAt, readStatus, levelOf, demanding, requestRefusals, request}
 use Rattle.tick.specs.Digest.{digest}
 use Rattle.table.specs.Form.{noPort, portAt, withPort, done, refuse, tells, refuseStatus, refuseTick}
-use Rattle.statements.specs.Kept.{after-well, controlled-well, unlatched-well, demanding-well, cold-well, port-after-at}
+use Rattle.statements.specs.Kept.{tick-well, controlled-well, unlatched-well, demanding-well, cold-well}
 use Rattle.table.specs.Laws.{well-count}
-use Rattle.boards.specs.Laws.{count-after}
-use Rattle.boards.specs.Sharing.{rankAt, keptAt, portAfter, tableAfter}
+use Rattle.boards.specs.Laws.{count-after, port-here}
+use Rattle.boards.specs.Sharing.{rankAt, keptAt, settledAt, tableAfter}
 use Rattle.boards.specs.Masks.{answered}
-use Rattle.tick.specs.Tick.{movedAt, tick, flagsReserved}
+use Rattle.tick.specs.Tick.{movedAt, tickRefusals, tick}
 use Rattle.table.specs.WellMade.{wellMade}
 use Rattle.table.specs.declared.form.Table.{Table}
 use Rattle.table.specs.declared.form.StatusRead.{StatusRead}
@@ -61,43 +57,22 @@ unfolding withPort portAt
 changed p q t e w = record { count = refl; well = w; states = part-kept (λ (x : Port). x .state) (t .ports) p q noPort e }
 
 control-keeps : (t : Table) (p w : ℕ) → Keeps t (writeControl t p w .table)
-unfolding writeControl controlled refuse done withControl
+unfolding writeControl refuse done withControl
 control-keeps t p w =
-    choice-on (λ (r : Told). Keeps t (r .table)) (wellMade t) _ _
-    (λ m. choice-on (λ (r : Told). Keeps t (r .table)) (ltb p (t .count)) _ _
-    (λ l. choice-on (λ (r : Told). Keeps t (r .table)) (refused w) _ _
-    (λ e. same t)
-    (λ e. choice-on (λ (r : Told). Keeps t (r .table)) (inDisabled (portAt t p .state) || sameAlternative (portAt t p .control) w) _ _
-    (λ g. changed p (withControl w (portAt t p)) t refl (λ v. controlled-well p w t v (ltb-true p (t .count) l) e))
-    (λ g. same t)))
-    (λ l. same t))
-    (λ m. same t)
+    ladder-holds (λ (r : Told). Keeps t (r .table)) (λ k. refuse k t) _ (controlRefusals t p w) (λ k. same t)
+    (λ c. changed p (withControl w (portAt t p)) t refl (λ v. controlled-well p w t v (leb-false (t .count) p (c .1 .0)) (c .1 .1 .0)))
 
 status-keeps : (t : Table) (p : ℕ) → Keeps t (readStatus t p .table)
 unfolding readStatus statusAt refuseStatus tells unlatched
 status-keeps t p =
-    choice-on (λ (r : StatusRead). Keeps t (r .table)) (wellMade t) _ _
-    (λ m. choice-on (λ (r : StatusRead). Keeps t (r .table)) (ltb p (t .count)) _ _
-    (λ l. changed p (unlatched (portAt t p)) t refl (λ v. unlatched-well p t v (ltb-true p (t .count) l)))
-    (λ l. same t))
-    (λ m. same t)
+    ladder-holds (λ (r : StatusRead). Keeps t (r .table)) (λ k. refuseStatus k t) _ (statusRefusals t p) (λ k. same t)
+    (λ c. changed p (unlatched (portAt t p)) t refl (λ v. unlatched-well p t v (leb-false (t .count) p (c .1 .0))))
 
 request-keeps : (t : Table) (p v : ℕ) → Keeps t (request t p v .table)
-unfolding request requested granting refuse done demanding levelOf
+unfolding request refuse done demanding levelOf
 request-keeps t p v =
-    choice-on (λ (r : Told). Keeps t (r .table)) (wellMade t) _ _
-    (λ m. choice-on (λ (r : Told). Keeps t (r .table)) (ltb p (t .count)) _ _
-    (λ l. choice-on (λ (r : Told). Keeps t (r .table)) (leb 1 v && leb v 255) _ _
-    (λ a. choice-on (λ (r : Told). Keeps t (r .table)) (inPowerOn (portAt t p .state)) _ _
-    (λ b. choice-on (λ (r : Told). Keeps t (r .table)) (atMost (levelOf v) (budgetOf (portAt t p .class))) _ _
-    (λ c. choice-on (λ (r : Told). Keeps t (r .table)) (atMost (levelOf v) (portAt t p .demand) || fits (sumOf (closedSum (withPort p (demanding (levelOf v) (portAt t p)) t))) (t .supply)) _ _
-    (λ g. changed p (demanding (levelOf v) (portAt t p)) t refl (λ w. demanding-well (levelOf v) p t w (ltb-true p (t .count) l) (budget-is-demand _)))
-    (λ g. same t))
-    (λ c. same t))
-    (λ b. same t))
-    (λ a. same t))
-    (λ l. same t))
-    (λ m. same t)
+    ladder-holds (λ (r : Told). Keeps t (r .table)) (λ k. refuse k t) _ (requestRefusals t p v) (λ k. same t)
+    (λ c. changed p (demanding (levelOf v) (portAt t p)) t refl (λ w. demanding-well (levelOf v) p t w (leb-false (t .count) p (c .1 .0)) (budget-is-demand _)))
 
 -- an accepted tick: its table is the tick's, its figure is in range, and it came from a well-made table
 pub record Ran (t : Table) (block : List ℕ) (figure : ℕ) (r : Ticked) : Type 0 where
@@ -118,23 +93,11 @@ stopped k t = record { answer = refl; table = refl }
 
 -- a tick runs or is stopped
 pub tick-told : (t : Table) (block : List ℕ) (figure : ℕ) → Stopped t (tick t block figure) ⊎ Ran t block figure (tick t block figure)
-unfolding tick supplyOf answered
+unfolding tick answered wellMade
 tick-told t block figure =
-    choice-on Told′ (wellMade t) _ _
-    (λ m. choice-on Told′ (eqb (length block) (14 * t .count)) _ _
-    (λ l. figures (leb figure 60000) refl m)
-    (λ l. inl (stopped 1 t)))
-    (λ m. inl (stopped 13 t))
-  where
-    Told′ : Ticked → Type 0
-    Told′ r = Stopped t r ⊎ Ran t block figure r
-
-    figures : (b : Bool) → leb figure 60000 ≡ b → wellMade t ≡ true → Told′ (tickWith (cond b (Is (tenths figure)) TooLarge) t block)
-    figures true e m =
-        choice-on Told′ (flagsReserved t block) (answered (tableAfter t (movedAt t block) (tenths figure))) (refuseTick 3 t)
-        (λ f. inr (record { answer = refl; whole = refl; table = refl; well = m; figure-in-range = leb-true figure 60000 e }))
-        (λ f. inl (stopped 3 t))
-    figures false e m = inl (stopped 4 t)
+    ladder-holds (λ (r : Ticked). Stopped t r ⊎ Ran t block figure r) (λ k. refuseTick k t) _ (tickRefusals t block figure)
+    (λ k. inl (stopped k t))
+    (λ c. inr (record { answer = refl; whole = refl; table = refl; well = simp (c .0); figure-in-range = ltb-false 60000 figure (c .1 .1 .0) }))
 
 pub in-range : (f : ℕ) → f ≤ 60000 → atMost (tenths f) highestSupply ≡ true
 unfolding atMost
@@ -149,12 +112,12 @@ call-well t (asked p v) e = request-keeps t p v .well e
 call-well t (ticked block figure) e =
     ⊎-elim
     (λ (x : Stopped t (tick t block figure)). rw (x .table) e)
-    (λ (x : Ran t block figure (tick t block figure)). rw (x .table) (after-well t block (tenths figure) e (in-range figure (x .figure-in-range))))
+    (λ (x : Ran t block figure (tick t block figure)). rw (x .table) (tick-well t block (tenths figure) e (in-range figure (x .figure-in-range))))
     (tick-told t block figure)
 
 cold-table : (n : ℕ) → 1 ≤ n → n ≤ 48 → coldStart n .table ≡ coldTable n
 unfolding coldStart done
-cold-table n a b = simp (le-leb 1 n a, le-leb n 48 b)
+cold-table n a b = simp (ne-eqb n 0 (λ e. omega arith), le-ltb 48 n b)
 
 -- every table that a history reaches is well-made
 pub reached-well : (n : ℕ) → 1 ≤ n → n ≤ 48 → (h : List Call) → wellMade (reached n h) ≡ true
@@ -170,16 +133,15 @@ module _ (t : Table) (m : wellMade t ≡ true) (p : ℕ) (x : Shown) where
 
   ran-needs : (block : List ℕ) (figure : ℕ) → Ran t block figure (tick t block figure) → p < t .count → Needs (portAt t p .state) x
       → Needs (portAt (tick t block figure .table) p .state) (cond (isIdle (portAt t p .state)) x (seen (sampleAt block (14 * p)) x))
-  unfolding portAfter movedAt
+  unfolding settledAt movedAt
   ran-needs block figure r l n =
       rw (r .table)
-      (rw (port-after-at t block (tenths figure) p (omega (arith, well-count t m)))
-      (simp (lt-ltb p (t .count) l)
+      (rw (port-here t (movedAt t block) (tenths figure) p (omega (arith, well-count t m)) l)
       (choice-on
-      (λ (z : Shown). Needs (settled (rankAt t (movedAt t block) p) (keptAt t (movedAt t block) (tenths figure) p) (step forced (portAt t p) (digest (sampleAt block (14 * p)))) .state) z)
+      (λ (z : Shown). Needs (settled (rankAt t (movedAt t block) p) (keptAt t (movedAt t block) (tenths figure) p) (step forced (portAt t p) (digest (sampleAt block (14 * p)))) .port .state) z)
       (isIdle (portAt t p .state)) x (seen (sampleAt block (14 * p)) x)
       (λ e. tick-needs-idle (sampleAt block (14 * p)) (rankAt t (movedAt t block) p) (keptAt t (movedAt t block) (tenths figure) p) (portAt t p) x e n)
-      (λ e. tick-needs (sampleAt block (14 * p)) (rankAt t (movedAt t block) p) (keptAt t (movedAt t block) (tenths figure) p) (portAt t p) x n))))
+      (λ e. tick-needs (sampleAt block (14 * p)) (rankAt t (movedAt t block) p) (keptAt t (movedAt t block) (tenths figure) p) (portAt t p) x n)))
 
   call-needs : (c : Call) → p < t .count → Needs (portAt t p .state) x → Needs (portAt (after t c) p .state) (adds t p c x)
   unfolding after adds
@@ -200,7 +162,7 @@ call-count t (asked p v) = request-keeps t p v .count
 call-count t (ticked block figure) =
     ⊎-elim
     (λ (e : Stopped t (tick t block figure)). ap (λ (u : Table). u .count) (e .table))
-    (λ (e : Ran t block figure (tick t block figure)). ap (λ (u : Table). u .count) (e .table) ∙ count-after t block (tenths figure))
+    (λ (e : Ran t block figure (tick t block figure)). ap (λ (u : Table). u .count) (e .table) ∙ count-after t (movedAt t block) (tenths figure))
     (tick-told t block figure)
 
 cold-needs : (n : ℕ) → n ≤ 48 → (p : ℕ) → p < n → Needs (portAt (coldTable n) p .state) nothing

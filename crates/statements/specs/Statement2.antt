@@ -25,13 +25,17 @@ use Rattle.port.specs.declared.form.Port.{Port}
 use Rattle.port.specs.declared.form.State.the-variants.{Idle, TestError}
 use Rattle.share.specs.Laws.{shed-after, kept-sum-fits, longest}
 use Rattle.share.specs.Share.{claims, before, keeps, keptSum}
+use Rattle.share.specs.Walk.{walked, isIn}
+use Rattle.share.specs.WalkLaws.{walk-keeps}
+use Rattle.words.specs.Status.{join}
+use Rattle.diagram.specs.Latched.{latches-told}
 use Rattle.tick.specs.Digest.{digest}
 use Rattle.table.specs.Form.{portAt}
 use Rattle.boards.specs.MaskLaws.{bits-a, bits-b, past-a, past-b, closed-number}
 use Rattle.statements.specs.Kept.{tick-well}
 use Rattle.table.specs.Laws.{well-count}
-use Rattle.boards.specs.Laws.{count-after, supply-after, rank-here, rank-past, claim-here, port-here, port-past}
-use Rattle.boards.specs.Sharing.{rankAt, claimAt, keptAt, settledAt, tableAfter}
+use Rattle.boards.specs.Laws.{Tells, count-after, supply-after, rank-here, rank-past, claim-here, port-here, port-past, latches-after}
+use Rattle.boards.specs.Sharing.{rankAt, claimAt, keptAt, settledAt, latchedAt, tableAfter}
 use Rattle.boards.specs.Masks.{namesA, namesB, maskA, maskB, answered}
 use Rattle.table.specs.Drawn.{closedAt}
 use Rattle.tick.specs.Tick.{movedAt, tick}
@@ -58,6 +62,8 @@ pub record Ticks (t : Table) (block : List ℕ) (figure : ℕ) (after : Table) (
   -- its claim ranks by age, priority and number, and is kept while the sum of the demands down the ranking is at most the figure
   pub ranked : (p : ℕ) → p < t .count → rankAt t (movedAt t block) p ≡ rank (portAt t p .state) (moves t block p)
   pub shared : (p : ℕ) → keptAt t (movedAt t block) (tenths figure) p ≡ keeps 48 (rankAt t (movedAt t block)) (λ q. claimAt t (movedAt t block) q .0) figure p
+  -- which is what the walk down the ranking keeps: "Going down the ranking, claims are kept while the sum of demands is at most the supply."
+  pub walked-down : (p : ℕ) → p < 48 → keptAt t (movedAt t block) (tenths figure) p ≡ isIn p (walked 48 (rankAt t (movedAt t block)) (λ q. claimAt t (movedAt t block) q .0) figure)
   pub claimed : (p : ℕ) → p < t .count → claimAt t (movedAt t block) p ≡ moves t block p .port .demand
   pub unclaimed : (p : ℕ) → t .count ≤ p → rankAt t (movedAt t block) p ≡ 6
   -- "The first that doesn't fit and all after it are shed, smaller ones too."
@@ -68,6 +74,8 @@ pub record Ticks (t : Table) (block : List ℕ) (figure : ℕ) (after : Table) (
   pub no-longer : (q : ℕ) → q < 48 → claims (rankAt t (movedAt t block)) q ≡ true → keptAt t (movedAt t block) (tenths figure) q ≡ false
       → ((r : ℕ) → r < 48 → claims (rankAt t (movedAt t block)) r ≡ true → before (rankAt t (movedAt t block)) r q ≡ true → keptAt t (movedAt t block) (tenths figure) r ≡ true)
       → figure < keptSum 48 (rankAt t (movedAt t block)) (λ r. claimAt t (movedAt t block) r .0) figure + claimAt t (movedAt t block) q .0
+  -- a port's latches are those that it had and those of this tick: of its move, or 12 where it was shed
+  pub latched : (p : ℕ) → p < t .count → portAt after p .latches ≡ join (portAt t p .latches) (latchedAt t (movedAt t block) (tenths figure) p)
   -- places past the count stay as they were
   pub past : (p : ℕ) → p < 48 → t .count ≤ p → portAt after p ≡ portAt t p
   pub same-count : after .count ≡ t .count
@@ -129,6 +137,14 @@ module _ (t : Table) (block : List ℕ) (figure : ℕ) where
   unfolding keptAt
   no-longer-so q l c k h = longest 48 (rankAt t m) (λ r. claimAt t m r .0) figure q l c k h
 
+  walked-so : (p : ℕ) → p < 48 → keptAt t m (tenths figure) p ≡ isIn p (walked 48 (rankAt t m) (λ q. claimAt t m q .0) figure)
+  unfolding keptAt
+  walked-so p l = walk-keeps 48 (rankAt t m) (λ q. claimAt t m q .0) figure p l
+
+  tells : Tells t m
+  unfolding movedAt
+  tells p l = latches-told forced (portAt t p) (digest (sampleAt block (14 * p)))
+
   port-moves : t .count ≤ 48 → (p : ℕ) → p < t .count
       → portAt (tableAfter t m (tenths figure)) p ≡ settled (rankAt t m p) (keptAt t m (tenths figure) p) (moves t block p) .port
   unfolding movedAt settledAt
@@ -174,11 +190,13 @@ ran-ticks t block figure m f =
       moved = port-moves t block figure (well-count t m);
       ranked = rank-moves t block figure;
       shared = kept-so t block figure;
+      walked-down = walked-so t block figure;
       claimed = claim-moves t block figure;
       unclaimed = rank-past t x;
       sheds = sheds-so t block figure;
       fits = kept-sum-fits 48 (rankAt t x) (λ q. claimAt t x q .0) figure;
       no-longer = no-longer-so t block figure;
+      latched = latches-after t x (tenths figure) (well-count t m) (tells t block figure);
       past = port-past t x (tenths figure);
       same-count = count-after t x (tenths figure);
       stored = supply-after t x (tenths figure);

@@ -8,11 +8,11 @@ use mathlib.Core.Bool.{true, false, false≢true}
 use mathlib.Core.List.{List, [], _∷_}
 use native.Mathlib.Omega.{arith}
 use Rattle.lists.specs.Bits.{bit, above, field}
-use Rattle.lists.specs.Every.{every}
+use Rattle.lists.specs.Every.{every, someBelow}
 use Rattle.lists.specs.Places.{tabulate}
 use Rattle.lists.specs.Table.{some}
 use Rattle.lists.specs.Total.{total}
-use Rattle.power.specs.Power.{atMost, supplyOf}
+use Rattle.power.specs.Power.{over, supplyOf}
 use Rattle.reading.specs.Class.{classOf, isFour, classOfTwo, budgetOf, isDemand}
 use Rattle.reading.specs.Sample.{wordAt, sampleAt, reservedFlags, flagsOf}
 use Rattle.reading.specs.declared.sample.Sample.{Sample}
@@ -23,15 +23,15 @@ use Rattle.diagram.specs.Rules.{idle, detected, detecting, classed, classifying
 use Rattle.settling.specs.Settle.{rank, granted, shed, settled}
 use Rattle.diagram.specs.Step.{byState, step}
 use Rattle.share.specs.Share.{claims, before, met, sumWhere, down, keeps}
-use Rattle.calls.specs.Calls.{coldTable, coldStart, writeControl, controlled, withControl}
+use Rattle.calls.specs.Calls.{coldTable, coldStart, sameAlternative, writeControl, withControl}
 use Rattle.table.specs.Drawn.{draws, closedSum, closedAt}
 use Rattle.tick.specs.Digest.{digest}
 use Rattle.table.specs.Form.{portAt, withPort, done}
-use Rattle.boards.specs.Sharing.{rankAt, claimAt, keptAt, portAfter, tableAfter}
+use Rattle.boards.specs.Sharing.{rankAt, claimAt, keptAt, settledAt, portAfter, tableAfter}
 use Rattle.boards.specs.Masks.{answered}
 use Rattle.tick.specs.Tick.{movedAt, tick, flagsReserved}
 use Rattle.table.specs.declared.form.Table.{Table}
-use Rattle.table.specs.WellMade.{wellCounts, wellPort, wellMade}
+use Rattle.table.specs.WellMade.{illPort, illMade}
 use Rattle.port.specs.States.{isIdle}
 use Rattle.statements.specs.History.{Call, control, ticked, after, reached, showsSignature, givesClass, nothing, signature, both, seen, adds, shown}
 
@@ -68,7 +68,7 @@ pub record Facts : Type 0 where
   pub too-early : shown 1 0 (ticked signs 154 ∷ ticked quiet 154 ∷ control 0 0x0005 ∷ []) ≡ nothing
 
 pub facts : Facts
-unfolding quiet signs gives signed reached after shown adds seen showsSignature givesClass coldStart coldTable done writeControl controlled withControl withPort wellMade atMost every portAt wellPort wellCounts refused field above isDemand some flagsReserved reservedFlags sampleAt wordAt tick answered tableAfter tabulate portAfter digest flagsOf bit signatureOf outside byDifferences classOfTwo isFour classOf budgetOf step byState enableOf pairOf up idle detected detecting classifying classed rankAt movedAt rank priorityOf keptAt claimAt keeps claims down sumWhere total met before settled granted enter shed closedSum draws closedAt
+unfolding quiet signs gives signed reached after shown adds seen showsSignature givesClass coldStart coldTable done writeControl sameAlternative withControl withPort illMade illPort over someBelow portAt refused field above isDemand some flagsReserved reservedFlags sampleAt wordAt tick answered tableAfter tabulate portAfter settledAt digest flagsOf bit signatureOf outside byDifferences classOfTwo isFour classOf budgetOf step byState enableOf pairOf up idle detected detecting classifying classed rankAt movedAt rank priorityOf keptAt claimAt keeps claims down sumWhere total met before settled granted enter shed closedSum draws closedAt
 facts = record { waits = refl; closes = refl; shows-both = refl; adds-up = refl; remembers = refl; opens = refl; forgets = refl; too-early = refl }
 
 -- the masks compared the other way round: false of our core

@@ -11,10 +11,10 @@ use lib.Count.{ones}
 use lib.Dec.{ltb}
 use lib.ListN.{replicate}
 use Rattle.lists.specs.Bits.{bit, above, field}
-use Rattle.lists.specs.Every.{every}
+use Rattle.lists.specs.Every.{every, someBelow}
 use Rattle.lists.specs.Table.{some}
 use Rattle.lists.specs.Total.{total}
-use Rattle.power.specs.Power.{tenths, zeroPower, atMost}
+use Rattle.power.specs.Power.{tenths, zeroPower, over}
 use Rattle.reading.specs.Class.{classOf, isFour, classOfTwo, budgetOf, isDemand}
 use Rattle.reading.specs.Sample.{wordAt, sampleAt, reservedFlags, flagsOf}
 use Rattle.words.specs.Control.{enableOf, pairOf, priorityOf, refused}
@@ -34,12 +34,12 @@ use Rattle.boards.specs.MaskLaws.{closed-number}
 use Rattle.boards.specs.Sharing.{rankAt, claimAt, keptAt}
 use Rattle.boards.specs.Masks.{namesA}
 use Rattle.table.specs.Drawn.{closedAt}
-use Rattle.tick.specs.Tick.{movedAt, flagsReserved}
-use Rattle.table.specs.WellMade.{wellCounts, wellPort, wellMade}
+use Rattle.tick.specs.Tick.{movedAt, tickRefusals, flagsReserved}
+use Rattle.table.specs.WellMade.{illPort, illMade, wellMade}
 use Rattle.table.specs.declared.form.Closed.{Closed}
 use Rattle.table.specs.declared.form.Closed.the-variants.{Ports, Refused}
 use Rattle.table.specs.declared.form.Table.{Table}
-use Rattle.statements.specs.Statement1.{Outcome, value, number, firstOf, tickRefusals}
+use Rattle.statements.specs.Statement1.{Outcome, value, number, firstOf}
 use Rattle.statements.specs.Statement2.{Ticks, moves}
 
 -- enable 01, alternative A
@@ -73,7 +73,7 @@ numberIn (Refused k) = 0
 
 -- "a core that refuses always (number table)": by the first statement this tick is answered
 answered-here : firstOf (tickRefusals two both 80) ≡ value
-unfolding two both wellMade atMost every portAt wellPort wellCounts refused field above isDemand some flagsReserved reservedFlags sampleAt wordAt
+unfolding two both illMade illPort over someBelow portAt refused field above isDemand some flagsReserved reservedFlags sampleAt wordAt
 answered-here = refl
 
 pub refuses-always : (k : ℕ) → number k ≡ firstOf (tickRefusals two both 80) → ⊥

@@ -22,7 +22,8 @@ use Rattle.port.specs.declared.form.State.{State}
 use Rattle.port.specs.declared.form.State.the-variants.{Disabled, Idle, Detecting, Backoff, Classifying, PowerUp, PowerOn, ErrorDelay, TestMode, TestError}
 use Rattle.table.specs.declared.form.Table.{Table}
 use Rattle.table.specs.Form.{portAt}
-use Rattle.table.specs.WellMade.{wellCounts, wellPort, wellMade}
+use Rattle.table.specs.Head.{wellCounts, well-port-is, well-made-is}
+use Rattle.table.specs.WellMade.{wellPort, wellMade}
 
 pub record WellCounts (c : Counts) : Type 0 where
   pub detection : c .detection ≤ 2000
@@ -84,8 +85,8 @@ counts-test c w =
     )
 
 pub well-of : (p : Port) → wellPort p ≡ true → Well p
-unfolding wellPort
-well-of p e =
+well-of p well =
+    let e = rw (well-port-is p) at well in
     let g2 = not (refused (p .control)) && isDemand (p .demand) in
     let g1 = leb (p .class) 4 && g2 in
     let e1 = split (wellCounts (p .counts)) g1 e in
@@ -94,8 +95,7 @@ well-of p e =
     record { counts = counts-of (p .counts) (e1 .0); class = leb-true (p .class) 4 (e2 .0); control = not-true (refused (p .control)) (e3 .0); demand = e3 .1 }
 
 pub well-test : (p : Port) → Well p → wellPort p ≡ true
-unfolding wellPort
-well-test p w = simp (counts-test (p .counts) (w .counts), le-leb (p .class) 4 (w .class), w .control, w .demand)
+well-test p w = simp (well-port-is, counts-test (p .counts) (w .counts), le-leb (p .class) 4 (w .class), w .control, w .demand)
 
 -- a counter that has advanced is small enough, whatever it was
 pub up-small : (n : ℕ) → up n ≤ 2000
@@ -151,8 +151,8 @@ pub record WellTable (t : Table) : Type 0 where
   pub ports : (p : ℕ) → p < t .count → Well (portAt t p)
 
 pub table-of : (t : Table) → wellMade t ≡ true → WellTable t
-unfolding wellMade
-table-of t e =
+table-of t well =
+    let e = rw (well-made-is t) at well in
     let g3 = every (t .count) (λ p. wellPort (portAt t p)) in
     let g2 = atMost (t .supply) highestSupply && g3 in
     let g1 = leb (t .count) 48 && g2 in
@@ -166,7 +166,6 @@ table-of t e =
     }
 
 pub table-test : (t : Table) → WellTable t → wellMade t ≡ true
-unfolding wellMade
 table-test t w =
     let e : every (t .count) (λ p. wellPort (portAt t p)) ≡ true = every-of (t .count) (λ p. wellPort (portAt t p)) (λ p l. well-test (portAt t p) (w .ports p l)) in
-    simp (w .some-ports, w .few-ports, w .supply, e)
+    simp (well-made-is, w .some-ports, w .few-ports, w .supply, e)

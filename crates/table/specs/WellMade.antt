@@ -1,8 +1,12 @@
--- Document 01, refusal 13: what an ill-made table is, said of a well-made one.
-use mathlib.Core.Bool.{Bool, _&&_, not}
-use lib.Dec.{leb}
-use Rattle.lists.specs.Every.{every}
-use Rattle.power.specs.Power.{atMost, highestSupply}
+-- Document 01, refusal 13, in its words and its order. A table is well-made where none of it holds.
+use Prim.Native.Nat.{ℕ}
+use mathlib.Core.Bool.{Bool, not}
+use mathlib.Core.List.{List, [], _∷_}
+use lib.Dec.{eqb, ltb}
+use Rattle.lists.specs.Every.{someBelow}
+use Rattle.lists.specs.Table.{some}
+use Rattle.lists.specs.Tests.{oneHolds}
+use Rattle.power.specs.Power.{over, highestSupply}
 use Rattle.reading.specs.Class.{isDemand}
 use Rattle.words.specs.Control.{refused}
 use Rattle.port.specs.declared.form.Counts.{Counts}
@@ -10,17 +14,22 @@ use Rattle.port.specs.declared.form.Port.{Port}
 use Rattle.table.specs.declared.form.Table.{Table}
 use Rattle.table.specs.Form.{portAt}
 
--- no "counter over 2,000"
-unfoldable pub wellCounts : Counts → Bool
-wellCounts c =
-    leb (c .detection) 2000 && (leb (c .backoff) 2000 && (leb (c .«error_delay») 2000 && (leb (c .«power_on») 2000
-    && (leb (c .limiting) 2000 && (leb (c .overload) 2000 && leb (c .«no_load») 2000)))))
+abbrev pub counters : Counts → List ℕ
+counters c =
+    c .detection ∷ c .backoff ∷ c .«error_delay» ∷ c .«power_on» ∷ c .limiting ∷ c .overload ∷ c .«no_load» ∷ []
 
--- nor "a class over 4, a control word that a write refuses with 3, or a demand not 0, 40, 70, 154 or 300"
-unfoldable pub wellPort : Port → Bool
-wellPort p = wellCounts (p .counts) && (leb (p .class) 4 && (not (refused (p .control)) && isDemand (p .demand)))
+-- "a counter over 2,000, a class over 4, a control word that a write refuses with 3, or a demand not 0, 40, 70, 154 or 300"
+unfoldable pub illPort : Port → Bool
+illPort p =
+    oneHolds (some (ltb 2000) (counters (p .counts)) ∷ ltb 4 (p .class) ∷ refused (p .control) ∷ not (isDemand (p .demand)) ∷ [])
 
 -- "ill-made table: port count 0 or over 48; a stored supply over 60,000; or, in a port below the count, .."
+unfoldable pub illMade : Table → Bool
+illMade t =
+    oneHolds (eqb (t .count) 0 ∷ ltb 48 (t .count) ∷ over (t .supply) highestSupply ∷ someBelow (t .count) (λ p. illPort (portAt t p)) ∷ [])
+
+unfoldable pub wellPort : Port → Bool
+wellPort p = not (illPort p)
+
 unfoldable pub wellMade : Table → Bool
-wellMade t =
-    leb 1 (t .count) && (leb (t .count) 48 && (atMost (t .supply) highestSupply && every (t .count) (λ p. wellPort (portAt t p))))
+wellMade t = not (illMade t)

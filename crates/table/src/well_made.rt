@@ -4,8 +4,8 @@ use port::form::Counts;
 use port::form::Port;
 use power::Power;
 ghost use mathlib.Core.Path.{_≡_};
-ghost use Rattle.table.specs.Head.{wellHead};
-ghost use Rattle.table.specs.WellMade.{wellCounts, wellPort, wellMade};
+ghost use Rattle.table.specs.Head.{wellCounts, wellHead};
+ghost use Rattle.table.specs.WellMade.{wellPort, wellMade};
 
 const MOST: u16 = 2_000;
 

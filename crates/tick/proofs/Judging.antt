@@ -18,7 +18,7 @@ use Rattle.tick.specs.Passes.{flagsFine, refusalOf}
 use Rattle.boards.specs.Sharing.{tableAfter}
 use Rattle.boards.specs.Masks.{answered}
 use Rattle.tick.specs.Tick.{movedAt, tick, flagsReserved}
-use Rattle.table.specs.WellMade.{wellMade}
+use Rattle.table.specs.WellMade.{illMade, wellMade}
 
 abbrev number : Bool → Bool → Bool → Bool → ℕ
 number w l f s = cond w (cond l (cond f 4 (cond s 0 3)) 1) 13
@@ -32,20 +32,20 @@ module _ (t : Table) (block : List ℕ) (figure : ℕ) where
 
   -- a tick is answered if nothing is refused, and else refused with that number
   pub judged : tick t block figure ≡ cond (eqb refusal 0) value (refuseTick refusal t)
-  unfolding tick flagsReserved flagsFine refusalOf
+  unfolding tick flagsReserved flagsFine refusalOf wellMade
   judged =
-      go (wellMade t) (eqb (length block) (14 * t .count)) (ltb 60000 figure) (someBelow (t .count) (λ p. reservedFlags (sampleAt block (14 * p) .flags)))
-      ∙ ap (λ (s : Bool). cond (eqb (number (wellMade t) (eqb (length block) (14 * t .count)) (ltb 60000 figure) s) 0) value (refuseTick (number (wellMade t) (eqb (length block) (14 * t .count)) (ltb 60000 figure) s) t))
+      go (illMade t) (eqb (length block) (14 * t .count)) (ltb 60000 figure) (someBelow (t .count) (λ p. reservedFlags (sampleAt block (14 * p) .flags)))
+      ∙ ap (λ (s : Bool). cond (eqb (number (not (illMade t)) (eqb (length block) (14 * t .count)) (ltb 60000 figure) s) 0) value (refuseTick (number (not (illMade t)) (eqb (length block) (14 * t .count)) (ltb 60000 figure) s) t))
       (nowhere (t .count) (λ p. reservedFlags (sampleAt block (14 * p) .flags)))
     where
-      go : (w l f s : Bool)
-          → cond (not w) (refuseTick 13 t) (cond (not l) (refuseTick 1 t) (cond f (refuseTick 4 t) (cond s (refuseTick 3 t) value)))
-          ≡ cond (eqb (number w l f (not s)) 0) value (refuseTick (number w l f (not s)) t)
-      go true true true s = refl
-      go true true false true = refl
-      go true true false false = refl
-      go true false f s = refl
-      go false l f s = refl
+      go : (i l f s : Bool)
+          → cond i (refuseTick 13 t) (cond (not l) (refuseTick 1 t) (cond f (refuseTick 4 t) (cond s (refuseTick 3 t) value)))
+          ≡ cond (eqb (number (not i) l f (not s)) 0) value (refuseTick (number (not i) l f (not s)) t)
+      go false true true s = refl
+      go false true false true = refl
+      go false true false false = refl
+      go false false f s = refl
+      go true l f s = refl
 
 -- what is not refused passed every test
 pub record Accepted (well : Bool) (n : ℕ) (block : List ℕ) (figure : ℕ) : Type 0 where

@@ -16,7 +16,7 @@ use Rattle.table.specs.declared.form.Table.{Table}
 use Rattle.table.specs.declared.form.Ticked.{Ticked}
 use Rattle.tick.specs.Digest.{digest}
 use Rattle.table.specs.Form.{portAt, refuseTick}
-use Rattle.table.specs.WellMade.{wellMade}
+use Rattle.table.specs.WellMade.{illMade}
 
 -- the port at a place below the count, after its own move on its own sample: "14 bytes a port, in port order"
 unfoldable pub movedAt : Table → List ℕ → ℕ → Moved
@@ -29,7 +29,7 @@ flagsReserved t block = someBelow (t .count) (λ p. reservedFlags (sampleAt bloc
 -- "13 first, in every call that takes a table. Tick: 1, 4, 3."
 abbrev pub tickRefusals : Table → List ℕ → ℕ → List (ℕ × Bool)
 tickRefusals t block figure =
-    (13, not (wellMade t))
+    (13, illMade t)
     ∷ (1, not (eqb (length block) (14 * t .count)))
     ∷ (4, ltb 60000 figure)
     ∷ (3, flagsReserved t block)

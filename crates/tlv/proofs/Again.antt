@@ -1,7 +1,7 @@
 -- "bytes that read, with 3:2 zero, are rewritten the same".
 -- Assumes nothing.
 use mathlib.Core.Path.{_≡_, _∙_, refl, sym, ap, subst}
-use mathlib.Core.Bool.{Bool, true, false, cond, not}
+use mathlib.Core.Bool.{Bool, true, false, cond}
 use mathlib.Core.List.{List, [], _∷_, _++_}
 use mathlib.Core.Logic.{_⊎_, ⊎-elim}
 use Prim.Native.Nat.{ℕ, zero, suc, _+_, _*_, _/_, _%_, _^_, _<_}
@@ -9,14 +9,15 @@ use native.Mathlib.Nat.{div-one, add-zero}
 use native.Mathlib.Omega.{arith}
 use lib.Dec.{eqb, leb}
 use lib.ListN.{length, getD, drop}
-use borrow.Author.Tests.{eqb-true, eq-eqb, ne-eqb, ltb-true, le-ltb}
+use borrow.Author.Tests.{eqb-true, eq-eqb, ne-eqb, ltb-true, le-ltb, not-false}
 use Rattle.lists.specs.Bits.{field}
+use Rattle.lists.specs.Ladder.{ladder-value}
 use Rattle.lists.specs.Table.{all, entry-or}
 use Rattle.lists.specs.Tests.{and-left, and-right}
 use Rattle.tlv.specs.Fields.{badValues}
 use Rattle.tlv.specs.Header.{wordAt, typeAt, lengthAt, fixedAt, isPower}
 use Rattle.tlv.specs.Laws.{isByte, ReadRewrites}
-use Rattle.tlv.specs.Read.{cut, exactlyOne, addedIn, formIn, fieldsIn, readOf}
+use Rattle.tlv.specs.Read.{exactlyOne, addedIn, formIn, fieldsIn, readRefusals, readOf}
 use Rattle.tlv.specs.Write.{badCodes, bytesOf}
 use Rattle.tlv.specs.declared.fields.Fields.{Fields}
 use Rattle.tlv.specs.declared.fields.Form.the-variants.{Short, Long}
@@ -27,15 +28,11 @@ use Rattle.tlv.proofs.One.{whole, power, lengths}
 use Rattle.tlv.proofs.Stored.{Answers, accept}
 
 -- what an accepted read says of its bytes
-accepted : (a b c : Bool) (f g : Fields) → cond a (Refused 6) (cond (not b) (Refused 9) (cond c (Refused 10) (Is g))) ≡ Is f → (b ≡ true) × (c ≡ false) × (g ≡ f)
-accepted true b c f g e = let z : _≡_ {A = ℕ} 0 1 = cc in absurd (omega arith)
-accepted false false c f g e = let z : _≡_ {A = ℕ} 0 1 = cc in absurd (omega arith)
-accepted false true true f g e = let z : _≡_ {A = ℕ} 0 1 = cc in absurd (omega arith)
-accepted false true false f g e = (refl, refl, cc)
-
 pub taken : (bytes : List ℕ) (f : Fields) → readOf bytes ≡ Is f → (exactlyOne bytes ≡ true) × (badValues (formIn bytes) ≡ false) × (fieldsIn bytes ≡ f)
 unfolding readOf
-taken bytes f e = accepted (cut bytes) (exactlyOne bytes) (badValues (formIn bytes)) f (fieldsIn bytes) e
+taken bytes f e =
+    let h = ladder-value Refused (Is (fieldsIn bytes)) (Is f) (λ k q. let z : _≡_ {A = ℕ} 0 1 = cc in omega arith) (readRefusals bytes) e in
+    (not-false (exactlyOne bytes) (h .0 .1 .0), h .0 .1 .1 .0, cc)
 
 -- a list written out, element by element
 abbrev tabulate : ℕ → (ℕ → ℕ) → List ℕ

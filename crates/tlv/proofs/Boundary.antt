@@ -1,24 +1,24 @@
 -- The part that the search hands back starts at a boundary of the walk, and is a whole power TLV.
 -- Assumes nothing.
 use mathlib.Core.Path.{_≡_, _∙_, refl, sym, ap, subst}
-use mathlib.Core.Bool.{Bool, true, false, cond}
+use mathlib.Core.Bool.{Bool, true, false, cond, true≢false}
 use mathlib.Core.List.{List, [], _∷_}
 use Prim.Native.Nat.{ℕ, zero, suc, _+_, _-_, _<_, _≤_}
 use native.Mathlib.Nat.{add-zero, add-assoc}
 use native.Mathlib.Omega.{arith}
-use lib.Dec.{eqb, ltb}
+use lib.Dec.{eqb}
 use lib.ListN.{length, getD, take, drop, length-drop}
 use lib.Seq.{getD-take, getD-drop, length-take-le}
 use borrow.Author.Tests.{leb-true}
+use Rattle.lists.specs.Ladder.{ladder-value}
 use Rattle.lists.specs.Tests.{and-left, and-right}
 use Rattle.tlv.specs.Header.{wordAt, typeAt, lengthAt, sizeAt, fixedAt, isPower}
 use Rattle.tlv.specs.Laws.{Boundary, start, next, PowerAt, OnePower, FoundPower, TakenPower}
-use Rattle.tlv.specs.Search.{isCut, powers, theOne, answerTo, searchOf}
+use Rattle.tlv.specs.Search.{powers, powersIn, searchRefusals, partAt, searchOf}
 use Rattle.tlv.specs.Walk.{stepOf, Walk, onward, walk, walkFrom}
 use Rattle.tlv.specs.Walked as Walked
 use Rattle.tlv.specs.declared.walk.Step.{Step}
 use Rattle.tlv.specs.declared.walk.Step.the-variants.{End, Cut, Tlv}
-use Rattle.tlv.specs.declared.search.Searched.{Searched}
 use Rattle.tlv.specs.declared.search.Searched.the-variants.{Is, Refused}
 use Rattle.tlv.proofs.Again.{taken}
 use Rattle.tlv.proofs.Fixed.{spelt}
@@ -49,25 +49,20 @@ module _ (bytes : List ℕ) where
   every zero at b = tt
   every (suc n) at b = stepped at (walk n bytes) (every n) b (stepOf bytes at) refl
 
-  only : (ps : List ℕ) (at size : ℕ) → Every bytes ps → theOne bytes ps ≡ Is at size → PowerAt bytes at size
-  unfolding theOne
-  only [] at size h e = let z : _≡_ {A = ℕ} 0 1 = cc in absurd (omega arith)
-  only (p ∷ []) at size h e =
-      let place : p ≡ at = cc in
-      let wide : sizeAt bytes p ≡ size = cc in
-      subst (λ (n : ℕ). PowerAt bytes at n) wide (subst (λ (a : ℕ). PowerAt bytes a (sizeAt bytes p)) place (h .0))
-  only (p ∷ (q ∷ rest)) at size h e = let z : _≡_ {A = ℕ} 0 1 = cc in absurd (omega arith)
-
-  inner : (a b : Bool) (s : Searched) (at size : ℕ) → cond a (Refused 1) (cond b (Refused 6) s) ≡ Is at size → s ≡ Is at size
-  inner true b s at size e = let z : _≡_ {A = ℕ} 0 1 = cc in absurd (omega arith)
-  inner false true s at size e = let z : _≡_ {A = ℕ} 0 1 = cc in absurd (omega arith)
-  inner false false s at size e = e
+  -- the first of them, where there is one
+  first : (ps : List ℕ) → Every bytes ps → eqb (length ps) 0 ≡ false → PowerAt bytes (getD ps 0 0) (sizeAt bytes (getD ps 0 0))
+  first [] h e = absurd (true≢false e)
+  first (p ∷ rest) h e = h .0
 
   at-boundary : (at size : ℕ) → searchOf bytes ≡ Is at size → PowerAt bytes at size
-  unfolding searchOf answerTo walkFrom
+  unfolding searchOf walkFrom
   at-boundary at size e =
-      let w = walkFrom bytes 0 in
-      only (powers bytes w) at size (every (length bytes - 0) 0 start) (inner (ltb 1500 (length bytes)) (isCut w) (theOne bytes (powers bytes w)) at size e)
+      let only = getD (powersIn bytes) 0 0 in
+      let clear = ladder-value Refused (partAt bytes only) (Is at size) (λ k q. let z : _≡_ {A = ℕ} 0 1 = cc in omega arith) (searchRefusals bytes) e in
+      let place : only ≡ at = cc in
+      let wide : sizeAt bytes only ≡ size = cc in
+      subst (λ (n : ℕ). PowerAt bytes at n) wide
+      (subst (λ (a : ℕ). PowerAt bytes a (sizeAt bytes only)) place (first (powersIn bytes) (every (length bytes - 0) 0 start) (clear .0 .1 .1 .1 .0)))
 
 -- the part has the bytes that stand from its start on, so it has the same header and the same four bytes
 module _ (bytes : List ℕ) (at size : ℕ) (p : PowerAt bytes at size) where

@@ -3,11 +3,13 @@
 use mathlib.Core.Path.{_≡_, refl, sym, ap, _∙_}
 use mathlib.Core.Bool.{Bool, true, false, cond}
 use mathlib.Core.List.{List, [], _∷_}
-use Prim.Native.Nat.{ℕ, _+_, _≤_}
-use lib.ListN.{length}
-use borrow.Author.Tests.{le-ltb}
+use Prim.Native.Nat.{ℕ, suc, _+_, _≤_}
+use native.Mathlib.Omega.{arith}
+use lib.Dec.{eqb, ltb}
+use lib.ListN.{length, getD}
+use borrow.Author.Tests.{lt-ltb, le-ltb}
 use Rattle.tlv.specs.Header.{sizeAt, isPower}
-use Rattle.tlv.specs.Search.{isCut, powers, theOne, answerTo, searchOf}
+use Rattle.tlv.specs.Search.{isCut, powers, powersIn, partAt, searchOf}
 use Rattle.tlv.specs.Walk.{stepOf, Walk, ended, tlv, walkFrom}
 use Rattle.tlv.specs.Seen.{another, notedOf, answerOf}
 use Rattle.tlv.specs.Walked.{whole, walk-ended, walk-cut, walk-tlv}
@@ -19,7 +21,9 @@ use Rattle.tlv.specs.declared.search.Searched.the-variants.{Is, Refused}
 
 -- the power TLVs seen, with those that are still to come
 abbrev join : List ℕ → Seen → List ℕ → Searched
-join bytes Nothing rest = theOne bytes rest
+join bytes Nothing [] = Refused 7
+join bytes Nothing (at ∷ []) = partAt bytes at
+join bytes Nothing (at ∷ (next ∷ rest)) = Refused 8
 join bytes (One at size) [] = Is at size
 join bytes (One at size) (next ∷ rest) = Refused 8
 join bytes More rest = Refused 8
@@ -28,23 +32,23 @@ join bytes More rest = Refused 8
 abbrev pub outlook : List ℕ → Seen → Walk → Searched
 outlook bytes seen w = cond (isCut w) (Refused 6) (join bytes seen (powers bytes w))
 
-pub allowed : (bytes : List ℕ) → length bytes ≤ 1500 → searchOf bytes ≡ answerTo bytes (walkFrom bytes 0)
+pub allowed : (bytes : List ℕ) → length bytes ≤ 1500 → searchOf bytes ≡ outlook bytes Nothing (walkFrom bytes 0)
 unfolding searchOf
-allowed bytes h = simp (le-ltb _ _ h)
-
-pub begins : (bytes : List ℕ) → answerTo bytes (walkFrom bytes 0) ≡ outlook bytes Nothing (walkFrom bytes 0)
-unfolding answerTo
-begins bytes = refl
+allowed bytes h = simp (le-ltb _ _ h) (ap (cond (isCut (walkFrom bytes 0)) (Refused 6)) (counted (powersIn bytes)))
+  where
+    counted : (ps : List ℕ) → cond (ltb 1 (length ps)) (Refused 8) (cond (eqb (length ps) 0) (Refused 7) (partAt bytes (getD ps 0 0))) ≡ join bytes Nothing ps
+    counted [] = refl
+    counted (at ∷ []) = refl
+    counted (at ∷ (next ∷ rest)) = simp (lt-ltb 1 (suc (suc (length rest))) (omega arith))
 
 at-end : (bytes : List ℕ) (seen : Seen) → outlook bytes seen ended ≡ answerOf seen
-unfolding answerOf theOne powers isCut
+unfolding answerOf powers isCut
 at-end bytes Nothing = refl
 at-end bytes (One at size) = refl
 at-end bytes More = refl
 
 module _ (bytes : List ℕ) (at : ℕ) where
   joined : (seen : Seen) (rest : List ℕ) → join bytes seen (at ∷ rest) ≡ join bytes (another seen at (sizeAt bytes at)) rest
-  unfolding theOne
   joined Nothing [] = refl
   joined Nothing (next ∷ rest) = refl
   joined (One a s) rest = refl

@@ -8,7 +8,7 @@ use Rattle.lists.specs.Bits.{field}
 use Rattle.tlv.specs.Fields.{outside, badValues}
 use Rattle.tlv.specs.Header.{wordAt, typeAt, lengthAt, sizeAt, standsAt, fixedAt, isPower}
 use Rattle.tlv.specs.Read.{cut, exactlyOne, addedIn, formIn, fieldsIn, readOf}
-use Rattle.tlv.specs.Search.{isCut, powers, theOne, answerTo, searchOf}
+use Rattle.tlv.specs.Search.{isCut, powers, searchOf}
 use Rattle.tlv.specs.Walk.{stepOf, walk, walkFrom}
 use Rattle.tlv.specs.Write.{bytesOf}
 use Rattle.tlv.specs.declared.fields.Fields.{Fields}
@@ -39,12 +39,12 @@ unfolding bytesOf
 whole-written = refl
 
 pub whole-found : searchOf wholeBytes ≡ Found 0 14
-unfolding searchOf answerTo theOne powers isCut walkFrom walk stepOf isPower fixedAt standsAt typeAt lengthAt sizeAt wordAt field
+unfolding searchOf powers isCut walkFrom walk stepOf isPower fixedAt standsAt typeAt lengthAt sizeAt wordAt field
 whole-found = refl
 
 -- "Empty PDU: 7."
 pub empty : searchOf [] ≡ Refused 7
-unfolding searchOf answerTo theOne powers isCut walkFrom walk
+unfolding searchOf powers isCut walkFrom walk
 empty = refl
 
 -- PDUs, in this order: a lone last byte 00; a type 0 header with a length; nothing counts after the end; two power TLVs; two and then a
@@ -61,7 +61,7 @@ pub searches :
     ∷ []
     )
     ≡ Refused 6 ∷ Found 0 14 ∷ Refused 7 ∷ Refused 8 ∷ Refused 6 ∷ Refused 6 ∷ Refused 7 ∷ []
-unfolding searchOf answerTo theOne powers isCut walkFrom walk stepOf isPower fixedAt standsAt typeAt lengthAt sizeAt wordAt field
+unfolding searchOf powers isCut walkFrom walk stepOf isPower fixedAt standsAt typeAt lengthAt sizeAt wordAt field
 searches = refl
 
 -- bytes handed to the reader, in this order: none; fewer than the header says, of another type too; a byte left over; another type

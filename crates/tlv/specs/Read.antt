@@ -1,10 +1,11 @@
 -- Document 01, "The power TLV": what the reader answers.
 use Prim.Native.Nat.{ℕ}
 use mathlib.Core.Bool.{Bool, cond, _&&_, _||_, not}
-use mathlib.Core.List.{List}
+use mathlib.Core.List.{List, [], _∷_}
 use lib.Dec.{eqb, ltb}
 use lib.ListN.{length, getD}
 use Rattle.lists.specs.Bits.{field}
+use Rattle.lists.specs.Ladder.{ladder}
 use Rattle.tlv.specs.Fields.{badValues}
 use Rattle.tlv.specs.Header.{wordAt, lengthAt, sizeAt, isPower}
 use Rattle.tlv.specs.declared.fields.Fields.{Fields}
@@ -18,7 +19,7 @@ use Rattle.tlv.specs.declared.read.Taken.the-variants.{Is, Refused}
 unfoldable pub cut : List ℕ → Bool
 cut bytes = ltb (length bytes) 2 || ltb (length bytes) (sizeAt bytes 0)
 
--- what refusal 9 misses, "exactly one power TLV of length 7 or 12"
+-- "exactly one power TLV of length 7 or 12"
 unfoldable pub exactlyOne : List ℕ → Bool
 exactlyOne bytes = eqb (length bytes) (sizeAt bytes 0) && (isPower bytes 0 && (eqb (lengthAt bytes 0) 7 || eqb (lengthAt bytes 0) 12))
 
@@ -41,10 +42,9 @@ formIn bytes = cond (eqb (lengthAt bytes 0) 7) Short (Long (addedIn bytes))
 unfoldable pub fieldsIn : List ℕ → Fields
 fieldsIn bytes = record { support = getD bytes 6 0; pair = getD bytes 7 0; class = getD bytes 8 0; form = formIn bytes }
 
--- "Reading a TLV: 6, 9, 10."
+-- "Reading a TLV: 6, 9, 10."; refusal 9, "the bytes aren't exactly one power TLV of length 7 or 12"
+abbrev pub readRefusals : List ℕ → List (ℕ × Bool)
+readRefusals bytes = (6, cut bytes) ∷ (9, not (exactlyOne bytes)) ∷ (10, badValues (formIn bytes)) ∷ []
+
 unfoldable pub readOf : List ℕ → Taken
-readOf bytes =
-    cond (cut bytes) (Refused 6)
-    (cond (not (exactlyOne bytes)) (Refused 9)
-    (cond (badValues (formIn bytes)) (Refused 10)
-    (Is (fieldsIn bytes))))
+readOf bytes = ladder (readRefusals bytes) Refused (Is (fieldsIn bytes))

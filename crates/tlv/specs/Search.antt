@@ -2,8 +2,9 @@
 use Prim.Native.Nat.{ℕ}
 use mathlib.Core.Bool.{Bool, true, false, cond}
 use mathlib.Core.List.{List, [], _∷_}
-use lib.Dec.{ltb}
-use lib.ListN.{length}
+use lib.Dec.{eqb, ltb}
+use lib.ListN.{length, getD}
+use Rattle.lists.specs.Ladder.{ladder}
 use Rattle.tlv.specs.Header.{sizeAt, isPower}
 use Rattle.tlv.specs.Walk.{Walk, ended, cut, tlv, walkFrom}
 use Rattle.tlv.specs.declared.search.Searched.{Searched}
@@ -21,16 +22,23 @@ powers bytes ended = []
 powers bytes cut = []
 powers bytes (tlv at rest) = cond (isPower bytes at) (at ∷ powers bytes rest) (powers bytes rest)
 
--- refusal 7, "no power TLV in the PDU"; "the part that is the power TLV"; refusal 8, "more than one power TLV in the PDU"
-unfoldable pub theOne : List ℕ → List ℕ → Searched
-theOne bytes [] = Refused 7
-theOne bytes (at ∷ []) = Is at (sizeAt bytes at)
-theOne bytes (at ∷ (next ∷ rest)) = Refused 8
+-- the power TLVs of the PDU
+abbrev pub powersIn : List ℕ → List ℕ
+powersIn bytes = powers bytes (walkFrom bytes 0)
 
--- of "1, 6, 8, 7", what the walk decides
-unfoldable pub answerTo : List ℕ → Walk → Searched
-answerTo bytes w = cond (isCut w) (Refused 6) (theOne bytes (powers bytes w))
+-- "PDU search: 1, 6, 8, 7."; refusal 1, "a PDU is over 1,500 bytes"; 8, "more than one power TLV in the PDU"; 7, "no power TLV in the PDU"
+abbrev pub searchRefusals : List ℕ → List (ℕ × Bool)
+searchRefusals bytes =
+    (1, ltb 1500 (length bytes))
+    ∷ (6, isCut (walkFrom bytes 0))
+    ∷ (8, ltb 1 (length (powersIn bytes)))
+    ∷ (7, eqb (length (powersIn bytes)) 0)
+    ∷ []
 
--- "PDU search: 1, 6, 8, 7."; refusal 1, "a PDU is over 1,500 bytes"
+-- the part that starts at a boundary
+abbrev pub partAt : List ℕ → ℕ → Searched
+partAt bytes at = Is at (sizeAt bytes at)
+
+-- "hands back the part that is the power TLV": there is one
 unfoldable pub searchOf : List ℕ → Searched
-searchOf bytes = cond (ltb 1500 (length bytes)) (Refused 1) (answerTo bytes (walkFrom bytes 0))
+searchOf bytes = ladder (searchRefusals bytes) Refused (partAt bytes (getD (powersIn bytes) 0 0))

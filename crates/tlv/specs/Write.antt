@@ -1,9 +1,10 @@
 -- Document 01, "The power TLV": what the writer answers, and what it leaves in the room.
 use Prim.Native.Nat.{ℕ, _+_, _*_, _/_, _%_}
-use mathlib.Core.Bool.{Bool, false, cond, _||_}
+use mathlib.Core.Bool.{Bool, false, _||_}
 use mathlib.Core.List.{List, [], _∷_, _++_}
 use lib.Dec.{ltb}
 use lib.ListN.{length, drop}
+use Rattle.lists.specs.Ladder.{ladder}
 use Rattle.tlv.specs.Fields.{badValues}
 use Rattle.tlv.specs.Header.{fixed}
 use Rattle.tlv.specs.declared.fields.Fields.{Fields}
@@ -43,13 +44,12 @@ lengthOf form = 7 + length (formBytes form)
 unfoldable pub bytesOf : Fields → List ℕ
 bytesOf f = headBytes f (lengthOf (f .form)) ++ formBytes (f .form)
 
--- "Writing: 3, 10, 1."
+-- "Writing: 3, 10, 1."; refusal 1, "the room for a written TLV is too short"
+abbrev pub writeRefusals : Fields → List ℕ → List (ℕ × Bool)
+writeRefusals f room = (3, badCodes (f .form)) ∷ (10, badValues (f .form)) ∷ (1, ltb (length room) (length (bytesOf f))) ∷ []
+
 unfoldable pub writtenOf : Fields → List ℕ → Written
-writtenOf f room =
-    cond (badCodes (f .form)) (Refused 3)
-    (cond (badValues (f .form)) (Refused 10)
-    (cond (ltb (length room) (length (bytesOf f))) (Refused 1)
-    (Is (length (bytesOf f)))))
+writtenOf f room = ladder (writeRefusals f room) Refused (Is (length (bytesOf f)))
 
 -- what each answer leaves: "Room past a written TLV keeps its bytes."; of a refusal, "no lent byte is written"
 abbrev pub left : Written → Fields → List ℕ → List ℕ

@@ -1,14 +1,14 @@
--- `grant` is `granting`: not above the present demand, or the sum with the change fits.
+-- `grant` refuses what is over the supply: above the present demand, and the sum with the change does not fit.
 -- Assumes nothing.
 use mathlib.Core.Path.{sym, _∙_}
 use borrow.Author.Needs.{needs}
-use Rattle.table.specs.Laws.{count-with-port}
-use Rattle.calls.specs.Calls.{granting}
+use Rattle.table.specs.Laws.{count-with-port, over-is}
+use Rattle.calls.specs.Calls.{overSupply}
 use Rattle.calls.proofs.grant.Statement.{statement}
 use Rattle.calls.proofs.grant.Tie as tie
 
 pub grant-spec : {M : Type 1} → statement M
-unfolding granting
+unfolding overSupply
 grant-spec =
     tie.close
     (tie.spec
@@ -17,7 +17,7 @@ grant-spec =
     (λ c κs. search needs)
     (λ c κs. search needs)
     (λ c κs. search needs)
-    (λ c. simp (c .done .ensures, c .before .before .before .with-port .ensures, c .before .before .before .before .with-demand .ensures, ← c .before .before .before .before .before .port-at .ensures, sym (c .before .before .at-most .ensures) ∙ c .before .if1 .taken))
+    (λ c. simp (c .done .ensures, c .before .before .before .with-port .ensures, c .before .before .before .before .with-demand .ensures, ← c .before .before .before .before .before .port-at .ensures, over-is, sym (c .before .before .at-most .ensures) ∙ c .before .if1 .taken))
     (λ c κs. simp (c .before .before .with-port .ensures, count-with-port) (c .before .before .before .before .before .pre .1))
     (λ c κs. search needs)
     (λ c κs. search needs)
@@ -28,6 +28,7 @@ grant-spec =
       c .before .before .before .before .before .before .with-port .ensures,
       c .before .before .before .before .before .before .before .with-demand .ensures,
       ← c .before .before .before .before .before .before .before .before .port-at .ensures,
+      over-is,
       sym (c .before .before .before .before .before .at-most .ensures) ∙ c .before .before .before .before .if1 .left,
       simp (c .before .before .before .closed-sum .ensures, c .before .before .before .before .before .before .with-port .ensures, c .before .before .before .before .before .before .before .with-demand .ensures) at f,
     ))
@@ -37,6 +38,7 @@ grant-spec =
     simp (
       c .refuse .ensures,
       ← c .before .before .before .before .before .before .before .before .port-at .ensures,
+      over-is,
       sym (c .before .before .before .before .before .at-most .ensures) ∙ c .before .before .before .before .if1 .left,
       simp (c .before .before .before .closed-sum .ensures, c .before .before .before .before .before .before .with-port .ensures, c .before .before .before .before .before .before .before .with-demand .ensures) at f,
     )))

@@ -3,8 +3,8 @@
 use mathlib.Core.Path.{sym, _∙_}
 use borrow.Author.Needs.{needs}
 use native.Mathlib.Omega.{arith}
-use borrow.Author.Tests.{lt-ltb, le-ltb, not-true, not-false}
-use Rattle.table.specs.Laws.{well-count}
+use borrow.Author.Tests.{le-leb, lt-leb, not-true, not-false}
+use Rattle.table.specs.Laws.{ill-made, none-ill, well-count}
 use Rattle.calls.specs.Calls.{readStatus}
 use Rattle.calls.proofs.read_status.Statement.{statement}
 use Rattle.calls.proofs.read_status.Tie as tie
@@ -16,9 +16,9 @@ read-status-spec =
     (tie.spec
     (λ c κs. search needs)
     (λ c κs. search needs)
-    (λ c. simp (c .refuse-status .ensures, sym (c .before .before .well-made .ensures) ∙ not-true (c .before .before .well-made .result) (c .before .if1 .taken)))
+    (λ c. simp (c .refuse-status .ensures, ill-made _ (sym (c .before .before .well-made .ensures) ∙ not-true (c .before .before .well-made .result) (c .before .if1 .taken))))
     (λ c. search needs)
     (λ c κs. search needs)
-    (λ c. simp (c .refuse-status2 .ensures, sym (c .before .before .before .before .well-made .ensures) ∙ not-false (c .before .before .before .before .well-made .result) (c .before .before .before .if1 .left), le-ltb _ _ (c .before .if2 .taken)))
+    (λ c. simp (c .refuse-status2 .ensures, none-ill _ (sym (c .before .before .before .before .well-made .ensures) ∙ not-false (c .before .before .before .before .well-made .result) (c .before .before .before .if1 .left)), le-leb _ _ (c .before .if2 .taken)))
     (λ c κs. omega (arith, well-count (c .before .before .before .before .args .table) (sym (c .before .before .before .well-made .ensures) ∙ not-false (c .before .before .before .well-made .result) (c .before .before .if1 .left))))
-    (λ c. simp (c .status-of .ensures, sym (c .before .before .before .before .well-made .ensures) ∙ not-false (c .before .before .before .before .well-made .result) (c .before .before .before .if1 .left), lt-ltb _ _ (c .before .if2 .left))))
+    (λ c. simp (c .status-of .ensures, none-ill _ (sym (c .before .before .before .before .well-made .ensures) ∙ not-false (c .before .before .before .before .well-made .result) (c .before .before .before .if1 .left)), lt-leb _ _ (c .before .if2 .left))))

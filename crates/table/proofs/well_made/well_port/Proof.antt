@@ -12,7 +12,7 @@ use Rattle.lists.specs.Tests.{and-right}
 use Rattle.power.specs.declared.Power.{Power}
 use Rattle.reading.specs.Class.{isDemand}
 use Rattle.words.specs.Control.{refused}
-use Rattle.table.specs.WellMade.{wellPort}
+use Rattle.table.specs.Head.{well-port-is}
 use Rattle.table.proofs.well_made.well_port.Statement.{statement}
 use Rattle.table.proofs.well_made.well_port.Tie as tie
 
@@ -29,7 +29,6 @@ fails d true c r e =
     simp (none, and-false)
 
 pub well-port-spec : {M : Type 1} → statement M
-unfolding wellPort
 well-port-spec =
     tie.close
     (tie.spec
@@ -37,11 +36,11 @@ well-port-spec =
     (λ c.
     let a = c .before .before .before .before .args in
     let counts = c .before .well-counts in
-    sym (rw (counts .ensures) at (fails (a .port .demand) (counts .result) (leb (a .port .class) 4) (not (refused (a .port .control))) (not-true _ (c .if1 .taken)))))
+    sym (well-port-is (a .port) ∙ rw (counts .ensures) at (fails (a .port .demand) (counts .result) (leb (a .port .class) 4) (not (refused (a .port .control))) (not-true _ (c .if1 .taken)))))
     (λ c. search needs)
     (λ c κs. search needs)
     (λ c κs. search needs)
     (λ c.
     let s = c .before .before .before .before in
     let counts = s .before .well-counts in
-    simp (c .is-demand .ensures, c .before .refused .ensures, sym (counts .ensures) ∙ and-right (leb (s .before .before .before .before .args .port .demand .0) 2000) (counts .result) (not-false _ (s .if1 .left)), and-assoc)))
+    simp (well-port-is, c .is-demand .ensures, c .before .refused .ensures, sym (counts .ensures) ∙ and-right (leb (s .before .before .before .before .args .port .demand .0) 2000) (counts .result) (not-false _ (s .if1 .left)), and-assoc)))

@@ -1,22 +1,23 @@
 -- `search` is `searchOf`. The loop's invariant: what is seen, with the walk that is left, has the whole walk's answer.
 -- The measure is what is left of the bytes. Assumes nothing.
-use mathlib.Core.Path.{_≡_, _∙_, sym}
+use mathlib.Core.Path.{_≡_, refl, _∙_, sym}
 use Prim.Native.Nat.{_-_}
 use native.Mathlib.Omega.{arith}
 use denote.Ref.{now}
 use lib.ListN.{length}
 use borrow.Author.Needs.{needs}
 use borrow.Author.Tests.{lt-ltb}
-use Rattle.tlv.specs.Search.{answerTo, searchOf}
+use Rattle.tlv.specs.Search.{searchOf}
 use Rattle.tlv.specs.Walk.{stepOf, walkFrom}
 use Rattle.tlv.specs.Walked.{whole}
+use Rattle.tlv.specs.declared.search.Seen.the-variants.{Nothing}
 use Rattle.tlv.specs.declared.walk.Step.the-variants.{Tlv}
-use Rattle.tlv.proofs.Passed.{outlook, allowed, begins, ends, breaks, goes-on}
+use Rattle.tlv.proofs.Passed.{outlook, allowed, ends, breaks, goes-on}
 use Rattle.tlv.proofs.search.search.Statement.{statement}
 use Rattle.tlv.proofs.search.search.Tie as tie
 
 abbrev Inv-loop : tie.InvT-loop
-Inv-loop pdu at₀ seen₀ at seen = answerTo pdu (walkFrom pdu 0) ≡ outlook pdu seen (walkFrom pdu at)
+Inv-loop pdu at₀ seen₀ at seen = outlook pdu Nothing (walkFrom pdu 0) ≡ outlook pdu seen (walkFrom pdu at)
 
 abbrev μ-loop : tie.MeasureT-loop
 μ-loop pdu at₀ seen₀ at seen = length pdu - at
@@ -34,7 +35,7 @@ search-spec =
     Inv-loop
     μ-loop
     (λ c. simp (lt-ltb _ _ (c .if1 .taken)))
-    (λ c. begins _)
+    (λ c. refl)
     (λ c κs. search needs)
     (λ c. search needs)
     (λ c κs. search needs)
