@@ -25,7 +25,7 @@ use Rattle.table.specs.Drawn.{draws, closedSum}
 use Rattle.table.specs.Form.{zeroCounts, portAt, withPort, done, refuse, tells, refuseStatus, refuseTick}
 use Rattle.boards.specs.Masks.{answered}
 use Rattle.tick.specs.Tick.{tick, flagsReserved}
-use Rattle.table.specs.WellMade.{illPort, illMade}
+use Rattle.table.specs.WellMade.{illPort, illMade, wellMade}
 use Rattle.table.specs.declared.form.Answer.the-variants.{Done}
 use Rattle.table.specs.declared.form.Status.the-variants.{Word}
 use Rattle.table.specs.declared.form.Table.{Table}
