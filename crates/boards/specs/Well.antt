@@ -17,7 +17,6 @@ use Rattle.port.specs.declared.form.State.{State}
 use Rattle.port.specs.declared.form.State.the-variants.{Disabled, Idle, Detecting, Backoff, Classifying, PowerUp, PowerOn, ErrorDelay, TestMode, TestError}
 use Rattle.settling.specs.Settle.{granted, shed, settled}
 use Rattle.share.specs.Share.{noClaim}
-use Rattle.table.specs.Form.{portAt}
 use Rattle.table.specs.Laws.{well-count}
 use Rattle.table.specs.Well.{Well, with-latches-well, enter-well, table-of, table-test}
 use Rattle.table.specs.WellMade.{wellMade}

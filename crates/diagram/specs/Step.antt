@@ -1,5 +1,5 @@
 -- Document 01, "The port's move in one tick": the two enable rules, and then the rule of the port's state.
-use mathlib.Core.Bool.{Bool, true, false, cond, _&&_}
+use mathlib.Core.Bool.{cond, _&&_}
 use Rattle.power.specs.declared.Power.{Power}
 use Rattle.words.specs.Control.{enableOf, isOff, isForced}
 use Rattle.port.specs.declared.form.State.{State}

@@ -27,7 +27,6 @@ use words::enable::is_forced;
 use words::enable::is_on;
 use words::status::Latches;
 ghost use mathlib.Core.Path.{_≡_};
-ghost use Rattle.port.specs.Form.{latchValid, latchInvalid, latchShort, latchOverload, latchAbsent};
 ghost use Rattle.diagram.specs.Rules.{isB, idle, detected, detecting, backoff, errorDelay, classed, classifying, stressed, watched, risen, powerUp, powerOn, testMode, testError};
 
 const VALID: Latches = Latches {

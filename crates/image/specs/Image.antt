@@ -9,8 +9,6 @@ use Rattle.lists.specs.Places.{tabulate}
 use Rattle.words.specs.declared.status.Latches.{Latches}
 use Rattle.port.specs.declared.form.Counts.{Counts}
 use Rattle.port.specs.declared.form.Port.{Port}
-use Rattle.port.specs.declared.form.State.{State}
-use Rattle.port.specs.declared.form.State.the-variants.{Disabled, Idle, Detecting, Backoff, Classifying, PowerUp, PowerOn, ErrorDelay, TestMode, TestError}
 use Rattle.port.specs.States.{codeOf}
 use Rattle.table.specs.Form.{portAt}
 use Rattle.table.specs.declared.form.Table.{Table}

@@ -6,7 +6,6 @@ use mathlib.Core.Bool.{true}
 use mathlib.Core.List.{List}
 use Prim.Native.Nat.{ℕ, _+_, _*_, _≤_}
 use native.Mathlib.Omega.{arith}
-use lib.Dec.{eqb}
 use lib.ListN.{length, length-set, length-replicate}
 use borrow.Author.Needs.{needs}
 use Rattle.lists.specs.Ladder.{ladder-each}
@@ -20,7 +19,6 @@ use Rattle.calls.specs.Calls.{coldPort, coldTable, coldRefusals, coldStart, con
 use Rattle.boards.specs.Sharing.{portAfter, tableAfter}
 use Rattle.boards.specs.Masks.{answered as tickAnswered}
 use Rattle.tick.specs.Tick.{movedAt, tickRefusals, tick}
-use Rattle.table.specs.WellMade.{wellMade}
 use Rattle.table.specs.declared.form.Table.{Table}
 use Rattle.table.specs.declared.form.Told.{Told}
 use Rattle.table.specs.declared.form.StatusRead.{StatusRead}

@@ -1,7 +1,7 @@
 -- A call's refusals in order, each a number with its condition: the first whose condition holds is given, and otherwise the value.
 -- Assumes nothing.
 use Prim.Native.Nat.{ℕ}
-use mathlib.Core.Path.{_≡_, refl, sym, _∙_, ap}
+use mathlib.Core.Path.{_≡_, refl, _∙_, ap}
 use mathlib.Core.Bool.{Bool, true, false, cond}
 use mathlib.Core.List.{List, [], _∷_}
 use Rattle.lists.specs.Tests.{choice, choice-on}

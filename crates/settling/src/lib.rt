@@ -13,7 +13,7 @@ use words::status::Latches;
 ghost use mathlib.Core.Path.{_≡_};
 ghost use Prim.Native.Nat.{_<_};
 ghost use Rattle.settling.specs.Claim.{rankIn, settledAs};
-ghost use Rattle.port.specs.States.{closed, inTest};
+ghost use Rattle.port.specs.States.{inTest};
 ghost use Rattle.settling.specs.Settle.{urgency, granted, shed};
 
 const DENIED: Latches = Latches {

@@ -7,10 +7,10 @@ use mathlib.Core.Bool.{Bool, true, false}
 use mathlib.Core.List.{List, [], _∷_, _++_, map}
 use lib.ListN.{replicate}
 use Rattle.lists.specs.Bits.{field, above}
-use Rattle.lists.specs.Every.{every, someBelow}
+use Rattle.lists.specs.Every.{someBelow}
 use Rattle.lists.specs.Table.{some}
 use Rattle.lists.specs.Total.{total}
-use Rattle.power.specs.Power.{tenths, over, fits, supplyOf}
+use Rattle.power.specs.Power.{tenths, over, fits}
 use Rattle.reading.specs.Class.{budgetOf, isDemand}
 use Rattle.reading.specs.Sample.{wordAt, sampleAt, reservedFlags}
 use Rattle.words.specs.Control.{refused}

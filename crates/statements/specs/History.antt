@@ -11,8 +11,6 @@ use Rattle.reading.specs.declared.class.Class.the-variants.{Is, Failure}
 use Rattle.reading.specs.declared.sample.Sample.{Sample}
 use Rattle.reading.specs.declared.signature.Signature.{Signature}
 use Rattle.reading.specs.declared.signature.Signature.the-variants.{Valid, Invalid, Open}
-use Rattle.port.specs.declared.form.State.{State}
-use Rattle.port.specs.declared.form.State.the-variants.{Disabled, Idle, Detecting, Backoff, Classifying, PowerUp, PowerOn, ErrorDelay, TestMode, TestError}
 use Rattle.port.specs.States.{isIdle}
 use Rattle.calls.specs.Calls.{coldStart, writeControl, readStatus, request}
 use Rattle.table.specs.Form.{portAt}

@@ -1,7 +1,7 @@
 -- The sharing's laws at a move that is not the access switch's: a board with one lever a port, no signature and no class. It is no board
 -- of ours; it shows that the laws ask nothing of a move beyond what they say.
 -- Assumes nothing.
-use Prim.Native.Nat.{ℕ, _+_, _≤_}
+use Prim.Native.Nat.{ℕ, _+_, _≤_, _<_}
 use mathlib.Core.Path.{_≡_, refl}
 use mathlib.Core.Bool.{true, false, cond}
 use mathlib.Core.List.{List}
@@ -68,7 +68,7 @@ pub record Shared (t : Table) (levers : List ℕ) (less more : Power) : Type 0 w
   pub fits : closedSum (tableAfter t (pulledAt t levers) more) ≤ more .0
   pub well : wellMade (tableAfter t (pulledAt t levers) more) ≡ true
   pub number : ones (maskA (tableAfter t (pulledAt t levers) more)) + ones (maskB (tableAfter t (pulledAt t levers) more)) ≡ count 48 (closedAt (tableAfter t (pulledAt t levers) more))
-  pub latches : Tells t (pulledAt t levers)
+  pub latches : (p : ℕ) → p < t .count → portAt (tableAfter t (pulledAt t levers) more) p .latches ≡ join (portAt t p .latches) (latchedAt t (pulledAt t levers) more p)
 
 pub shared : (t : Table) (levers : List ℕ) (less more : Power) → wellMade t ≡ true → less .0 ≤ more .0 → atMost more highestSupply ≡ true → Shared t levers less more
 shared t levers less more w l h =
@@ -76,11 +76,12 @@ shared t levers less more w l h =
     let few = well-count t w in
     let opens : Opens t m = λ p b. pulled-open (getD levers p 0) (portAt t p) in
     let wells : Wells t m = λ p b. pulled-well (getD levers p 0) (portAt t p) (table-of t w .ports p b) in
+    let tells : Tells t m = λ p b. pulled-told (getD levers p 0) (portAt t p) in
     let after = after-well t m more wells w h in
     record {
       closes-more = more-closes t m few less more l;
       fits = closed-fits t m few opens more;
       well = after;
       number = closed-number (tableAfter t m more) after;
-      latches = λ p b. pulled-told (getD levers p 0) (portAt t p);
+      latches = latches-after t m more few tells;
     }

@@ -2,20 +2,17 @@
 -- number from document 01, and each refusal changes no table and writes no byte." Each call has the list of its refusals, in document
 -- 01's order: the number given is that of the first entry whose condition holds, and a value is answered exactly if none does.
 -- Assumes nothing.
-use Prim.Native.Nat.{ℕ, _*_}
+use Prim.Native.Nat.{ℕ}
 use mathlib.Core.Path.{_≡_, refl}
-use mathlib.Core.Bool.{Bool, true, false, cond, not, false≢true}
-use mathlib.Core.List.{List, [], _∷_}
+use mathlib.Core.Bool.{Bool, true, false≢true}
+use mathlib.Core.List.{List}
 use mathlib.Core.Logic.{⊎-elim}
 use native.Mathlib.Omega.{arith}
-use lib.Dec.{leb, eqb}
-use lib.ListN.{length}
 use Rattle.lists.specs.Ladder.{ladder, ladder-holds, ladder-part}
 use Rattle.calls.specs.Calls.{coldTable, coldRefusals, coldStart, controlRefusals, writeControl, statusRefusals, statusAt, readStatus, requestRefusals, request}
 use Rattle.table.specs.Form.{done, refuse, tells, refuseStatus, refuseTick}
 use Rattle.boards.specs.Masks.{answered}
 use Rattle.tick.specs.Tick.{tickRefusals, tick}
-use Rattle.table.specs.WellMade.{wellMade}
 use Rattle.table.specs.declared.form.Answer.{Answer}
 use Rattle.table.specs.declared.form.Answer.the-variants.{Done, Refused}
 use Rattle.table.specs.declared.form.Closed.{Closed}

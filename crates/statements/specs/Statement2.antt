@@ -8,11 +8,10 @@ use mathlib.Core.Bool.{Bool, true, false, _&&_, false≢true}
 use mathlib.Core.List.{List}
 use mathlib.Core.Logic.{⊎-elim}
 use native.Mathlib.Omega.{arith}
-use borrow.Author.Tests.{lt-ltb, le-ltb, lt-leb, le-leb}
+use borrow.Author.Tests.{lt-leb, le-leb}
 use Rattle.lists.specs.Bits.{bit}
 use Rattle.lists.specs.Count.{count}
 use Rattle.power.specs.Power.{tenths, forced}
-use Rattle.power.specs.declared.Power.{Power}
 use Rattle.reading.specs.Sample.{sampleAt}
 use Rattle.words.specs.Control.{pairOf}
 use Rattle.port.specs.States.{closed, inTest}
@@ -21,7 +20,6 @@ use Rattle.port.specs.Form.{latching, latchDenied}
 use Rattle.settling.specs.Settle.{rank, granted, shed, settled}
 use Rattle.diagram.specs.Step.{step}
 use Rattle.port.specs.declared.form.Moved.{Moved}
-use Rattle.port.specs.declared.form.Port.{Port}
 use Rattle.port.specs.declared.form.State.the-variants.{Idle, TestError}
 use Rattle.share.specs.Laws.{shed-after, kept-sum-fits, longest}
 use Rattle.share.specs.Share.{claims, before, keeps, keptSum}

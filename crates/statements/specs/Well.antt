@@ -1,10 +1,9 @@
 -- Every move and every settling keeps a port well-made: a tick makes no ill-made table.
 -- Assumes nothing.
-use Prim.Native.Nat.{ℕ, _≤_}
+use Prim.Native.Nat.{_≤_}
 use mathlib.Core.Path.{_≡_, refl}
-use mathlib.Core.Bool.{Bool, true, cond, not}
+use mathlib.Core.Bool.{true, not}
 use native.Mathlib.Omega.{arith}
-use lib.Dec.{leb}
 use borrow.Author.Tests.{leb-true}
 use Rattle.lists.specs.Table.{some}
 use Rattle.lists.specs.Tests.{choice}
@@ -18,11 +17,9 @@ use Rattle.reading.specs.Sample.{flagsOf}
 use Rattle.words.specs.declared.status.Latches.{Latches}
 use Rattle.port.specs.Entry.{enter}
 use Rattle.port.specs.Form.{withClass, withLatches}
-use Rattle.port.specs.States.{inTest}
 use Rattle.diagram.specs.Rules.{stressed}
 use Rattle.diagram.specs.Outcomes.{advanced, counted, faulted, step-outcome}
 use Rattle.diagram.specs.Step.{step}
-use Rattle.settling.specs.Settle.{granted, shed, settled}
 use Rattle.port.specs.declared.form.Classing.{Classing}
 use Rattle.port.specs.declared.form.Classing.the-variants.{NotDone as NotClassed, Failed, Is as Classed}
 use Rattle.port.specs.declared.form.Counts.{Counts}

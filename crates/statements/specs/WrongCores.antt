@@ -11,7 +11,7 @@ use lib.Count.{ones}
 use lib.Dec.{ltb}
 use lib.ListN.{replicate}
 use Rattle.lists.specs.Bits.{bit, above, field}
-use Rattle.lists.specs.Every.{every, someBelow}
+use Rattle.lists.specs.Every.{someBelow}
 use Rattle.lists.specs.Table.{some}
 use Rattle.lists.specs.Total.{total}
 use Rattle.power.specs.Power.{tenths, zeroPower, over}

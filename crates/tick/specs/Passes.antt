@@ -1,14 +1,13 @@
 -- What the passes of a tick hand to each other. A reader of the tick needs none of this: `tick` and `tableAfter` are its meaning.
 -- Assumes nothing.
 use Prim.Native.Nat.{ℕ, _*_}
-use mathlib.Core.Path.{_≡_}
-use mathlib.Core.Bool.{Bool, false, cond, not, _&&_, and-assoc}
+use mathlib.Core.Bool.{Bool, false, cond, not}
 use mathlib.Core.List.{List}
-use lib.Dec.{leb, ltb, eqb}
+use lib.Dec.{ltb, eqb}
 use lib.ListN.{length, getD}
 use Rattle.lists.specs.Every.{every}
 use Rattle.lists.specs.Places.{tabulate}
-use Rattle.power.specs.Power.{zeroPower, atMost, highestSupply}
+use Rattle.power.specs.Power.{zeroPower}
 use Rattle.power.specs.declared.Power.{Power}
 use Rattle.reading.specs.Sample.{sampleAt, reservedFlags}
 use Rattle.settling.specs.Claim.{rankIn, settledAs}
@@ -18,7 +17,6 @@ use Rattle.share.specs.declared.Claims.{Claims}
 use Rattle.table.specs.declared.form.Table.{Table}
 use Rattle.table.specs.Form.{portAt}
 use Rattle.tick.specs.Tick.{movedAt}
-use Rattle.table.specs.WellMade.{wellPort, wellMade}
 
 -- ---- the tests
 
