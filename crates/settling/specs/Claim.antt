@@ -1,12 +1,14 @@
 -- The claim of a port and what the sharing does to it, by what the passes over the places hand on: the state after the move, a control
 -- word and a rank in place of a whole move. A reader needs none of this: `rank` and `settled` are the meaning, and the laws here say that it is theirs.
 -- Assumes nothing.
-use Prim.Native.Nat.{ℕ, _+_, _<_}
+use Prim.Native.Nat.{ℕ, _+_, _≤_, _<_}
 use mathlib.Core.Path.{_≡_, refl}
-use mathlib.Core.Bool.{Bool, true, false, cond, _&&_, false≢true}
+use mathlib.Core.Bool.{Bool, true, false, cond, not, _&&_, _||_, false≢true, true≢false}
+use mathlib.Core.Logic.{⊎-elim}
 use native.Mathlib.Omega.{arith}
 use lib.Dec.{leb, ltb}
 use borrow.Author.Tests.{le-leb, lt-leb, lt-ltb}
+use Rattle.lists.specs.Places.{side}
 use Rattle.words.specs.Control.{priorityOf}
 use Rattle.words.specs.declared.control.Priority.{Priority}
 use Rattle.words.specs.declared.control.Priority.the-variants.{Unknown, Critical, High, Low}
@@ -60,6 +62,25 @@ settledAs r kept p =
     cond (leb noClaim r) (quietly p)
     (cond kept (quietly (cond (leb 3 r) (granted (p .state) p) p))
     (shed p))
+
+-- does it change the port: a claim that is shed, or an asker's that is kept
+unfoldable pub settlingChanges : ℕ → Bool → Bool
+settlingChanges r kept = ltb r noClaim && (not kept || leb 3 r)
+
+pub settled-still : (r : ℕ) (kept : Bool) (p : Port) → settlingChanges r kept ≡ false → settledAs r kept p .port ≡ p
+unfolding settledAs settlingChanges
+settled-still r kept p =
+    ⊎-elim
+    (λ (h : r < noClaim). claimed kept h)
+    (λ (h : noClaim ≤ r). λ e. simp (le-leb noClaim r h))
+    (side r noClaim)
+  where
+    claimed : (k : Bool) → r < noClaim → (ltb r noClaim && (not k || leb 3 r)) ≡ false
+        → cond (leb noClaim r) (quietly p) (cond k (quietly (cond (leb 3 r) (granted (p .state) p) p)) (shed p)) .port ≡ p
+    claimed true h e =
+        let low : leb 3 r ≡ false = simp (lt-ltb r noClaim h) at e in
+        simp (lt-leb noClaim r h, low)
+    claimed false h e = absurd (true≢false (simp (lt-ltb r noClaim h) at e))
 
 -- a closed port is where it would be granted to be
 granted-closed : (s : State) (p : Port) → closed s ≡ true → granted s p ≡ p

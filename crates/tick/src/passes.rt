@@ -6,6 +6,7 @@ use share::Claims;
 use table::form::Table;
 ghost use mathlib.Core.Path.{_≡_};
 ghost use Prim.Native.Nat.{_≤_};
+ghost use Rattle.settling.specs.Claim.{settlingChanges};
 ghost use Rattle.tick.specs.Passes.{ranksOf, demandsOf, settledAll, sharedOut};
 
 // The rank of each place's claim.
@@ -44,6 +45,13 @@ fn demands_of(table: Table) -> [Power; 48]
     demands
 }
 
+// Most ports stay as they moved: those without a claim, and those that are closed and kept.
+fn changes(rank: u8, kept: bool) -> bool
+    ensures { λ r. ⌜ r ≡ settlingChanges rank kept ⌝ }
+{
+    (rank < share::NO_CLAIM) & (!kept | (3 <= rank))
+}
+
 // Each claim was kept or shed; places past the count stay as they are.
 fn settle_all(mut table: Table, ranks: [u8; 48], kept: [bool; 48], supply: Power) -> Table
     requires { ⌜ table .count ≤ 48 ⌝ }
@@ -52,10 +60,14 @@ fn settle_all(mut table: Table, ranks: [u8; 48], kept: [bool; 48], supply: Power
     let n = table.count as usize;
     let mut k = 0;
     while k < n {
-        let before = table.ports[k];
-        let settled = settled_port(ranks[k], kept[k], before);
-        let port = settled.port;
-        table.ports[k] = port;
+        let rank = ranks[k];
+        let keeps = kept[k];
+        if changes(rank, keeps) {
+            let before = table.ports[k];
+            let settled = settled_port(rank, keeps, before);
+            let port = settled.port;
+            table.ports[k] = port;
+        }
         k += 1;
     }
     table.supply = supply;

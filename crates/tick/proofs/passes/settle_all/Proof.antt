@@ -3,13 +3,14 @@
 use mathlib.Core.Path.{_≡_, refl, sym, _∙_, ap}
 use mathlib.Core.Bool.{Bool, false}
 use mathlib.Core.List.{List}
+use mathlib.Core.Logic.{⊎-elim}
 use Prim.Native.Nat.{ℕ, _-_, _≤_}
 use native.Mathlib.Nat.{le-refl, le-antisymm}
 use native.Mathlib.Omega.{arith}
 use lib.ListN.{length, getD, length-map}
 use borrow.Author.Needs.{needs}
-use Rattle.lists.specs.Places.{Filled, filled-none, filled-more, filled-below}
-use Rattle.settling.specs.Claim.{settledAs}
+use Rattle.lists.specs.Places.{Filled, filled-none, filled-more, filled-kept, filled-below}
+use Rattle.settling.specs.Claim.{settledAs, settled-still}
 use Rattle.port.specs.declared.form.Moved.{Moved}
 use Rattle.port.specs.declared.form.Port.{Port}
 use Rattle.table.specs.declared.form.Table.{Table}
@@ -31,6 +32,30 @@ abbrev μ-loop : tie.MeasureT-loop
 long : (c : tie.Start Inv-loop μ-loop) → length (c .args .t1 .ports) ≡ 48
 long c = sym (length-map (c .args .t1 .ports) _) ∙ c .good .0 .1 .1 .0 .1 .0 .1
 
+-- a port that settling changes is stored, and any other is as it was
+again : tie.Need-loop-again Inv-loop μ-loop
+unfolding portAt
+again c =
+    let s = c .before .before .before .before in
+    let l = c .before .before .before .loop in
+    let r = getD (s .args .t2) (l .k) 0 in
+    let kept = getD (s .args .t3) (l .k) false in
+    let f = settling (s .args .t1) (s .args .t2) (s .args .t3) in
+    let ports = s .args .t1 .ports in
+    ⊎-elim
+    (λ w. (
+      omega (arith, c .before .before .loop-test .taken),
+      rw (w .4) (filled-more noPort f ports (l .k) (l .table .ports) (w .2 .result .port) (l .inv .1) (omega (arith, long s, c .before .before .loop-test .taken))
+          (ap (λ (m : Moved). m .port) (w .2 .ensures ∙ ap (settledAs r kept) (l .inv .1 .left (l .k) (le-refl (l .k)))))),
+      rw (w .4) (l .inv .2),
+    ))
+    (λ w. (
+      omega (arith, c .before .before .loop-test .taken),
+      rw (w .1) (filled-kept noPort f ports (l .k) (l .table .ports) (l .inv .1) (sym (settled-still r kept (getD ports (l .k) noPort) (sym (c .before .changes .ensures) ∙ w .0 .left)))),
+      rw (w .1) (l .inv .2),
+    ))
+    (c .if1 .came)
+
 pub settle-all-spec : {M : Type 1} → statement M
 unfolding settledAll portAt
 settle-all-spec =
@@ -42,6 +67,7 @@ settle-all-spec =
     (λ c. (search needs, filled-none _ _ _, refl))
     (λ c. omega arith)
     (λ c. omega arith)
+    (λ c κs. search needs)
     (λ c. omega arith)
     (λ c. omega arith)
     (λ c κs. search needs)
@@ -49,15 +75,7 @@ settle-all-spec =
     (λ c. omega arith)
     (λ c. omega arith)
     (λ c. omega arith)
-    (λ c.
-    let s = c .before .before .before .before .before in
-    let l = c .before .before .before .before .loop in (
-      omega arith,
-      filled-more noPort (settling (s .args .t1) (s .args .t2) (s .args .t3)) (s .args .t1 .ports) (l .k) (l .table .ports) (c .before .settled-port .result .port) (l .inv .1)
-          (omega (arith, long s))
-          (ap (λ (m : Moved). m .port) (c .before .settled-port .ensures ∙ ap (settledAs (getD (s .args .t2) (l .k) 0) (getD (s .args .t3) (l .k) false)) (l .inv .1 .left (l .k) (le-refl (l .k))))),
-      l .inv .2,
-    ))
+    again
     (λ c.
     let s = c .before .before in
     let l = c .before .loop in
