@@ -23,21 +23,6 @@
  *     well-made: then the core moves that table by the rules, and 13 is not given.
  *   - The stack: no theorem bounds it. Measured on x86-64 (tools/stack), with everything that is called but memcpy: a tick
  *     needs 11 KB, request, status and control 10 KB, a cold start 4 KB, the three functions on TLVs 200 bytes.
- *
- *  1  a sample block is not 14 bytes per port; a PDU is over 1,500 bytes; the room for a written TLV is too short
- *  2  port number not below the port count; a cold start asked for 0 or over 48 ports
- *  3  reserved bits or codes in a control word or in sample flags; a type, source or priority code over 3, an octet
- *     over 255, or a form other than 7 and 12 handed to the writer
- *  4  supply figure over 60,000
- *  5  port in the wrong state for the call
- *  6  a TLV runs past the end of the bytes
- *  7  no power TLV in the PDU
- *  8  more than one power TLV in the PDU
- *  9  the bytes are not exactly one power TLV of length 7 or 12
- * 10  power value outside 1..255
- * 11  request over the port's class
- * 12  request does not fit the supply
- * 13  ill-made table
  */
 #ifndef IPAQSUNI_H
 #define IPAQSUNI_H
@@ -49,7 +34,50 @@
 extern "C" {
 #endif
 
+/* The version of this interface: its three numbers, and the text of them with points between. */
+#define IPAQSUNI_VERSION_MAJOR 0
+#define IPAQSUNI_VERSION_MINOR 1
+#define IPAQSUNI_VERSION_PATCH 0
+#define IPAQSUNI_TEXT_OF(major, minor, patch) #major "." #minor "." #patch
+#define IPAQSUNI_TEXT(major, minor, patch) IPAQSUNI_TEXT_OF(major, minor, patch)
+#define IPAQSUNI_VERSION IPAQSUNI_TEXT(IPAQSUNI_VERSION_MAJOR, IPAQSUNI_VERSION_MINOR, IPAQSUNI_VERSION_PATCH)
+
+/* What a function answers: that it did what it is for, or the refusal, each with what it is given for. */
+#define IPAQSUNI_OK 0
+/* a sample block is not 14 bytes per port; a PDU is over 1,500 bytes; the room for a written TLV is too short */
+#define IPAQSUNI_BAD_LENGTH 1
+/* port number not below the port count; a cold start asked for 0 or over 48 ports */
+#define IPAQSUNI_NO_SUCH_PORT 2
+/* reserved bits or codes in a control word or in sample flags; a type, source or priority code over 3, an octet over 255,
+   or a form other than 7 and 12 handed to the writer */
+#define IPAQSUNI_RESERVED 3
+/* supply figure over 60,000 */
+#define IPAQSUNI_SUPPLY_TOO_LARGE 4
+/* port in the wrong state for the call */
+#define IPAQSUNI_WRONG_STATE 5
+/* a TLV runs past the end of the bytes */
+#define IPAQSUNI_CUT 6
+/* no power TLV in the PDU */
+#define IPAQSUNI_NO_TLV 7
+/* more than one power TLV in the PDU */
+#define IPAQSUNI_SEVERAL_TLVS 8
+/* the bytes are not exactly one power TLV of length 7 or 12 */
+#define IPAQSUNI_NOT_ONE_TLV 9
+/* power value outside 1..255 */
+#define IPAQSUNI_BAD_VALUE 10
+/* request over the port's class */
+#define IPAQSUNI_OVER_CLASS 11
+/* request does not fit the supply */
+#define IPAQSUNI_OVER_SUPPLY 12
+/* ill-made table */
+#define IPAQSUNI_ILL_MADE 13
+
+/* Lengths, in bytes but for the first. */
+#define IPAQSUNI_PORTS 48 /* the most ports of a table */
 #define IPAQSUNI_TABLE 1014
+#define IPAQSUNI_SAMPLE 14 /* a port's part of a sample block */
+#define IPAQSUNI_LONGEST_PDU 1500
+#define IPAQSUNI_LONGEST_TLV 14 /* a written TLV of form 12, with its header; one of form 7 is 9 */
 
 /* The places of a power TLV's fields. */
 #define IPAQSUNI_FORM 0 /* the TLV's length, 7 or 12; the last five are 0 for 7 */

@@ -114,7 +114,7 @@ static void refused(uint32_t answer) {
 }
 
 static void answered(uint32_t answer) {
-    if (answer != 0)
+    if (answer != IPAQSUNI_OK)
         refused(answer);
     else
         printf("ok\n");
@@ -123,7 +123,7 @@ static void answered(uint32_t answer) {
 static void status(uint32_t port) {
     uint32_t word = (uint32_t)MARK;
     uint32_t answer = ipaqsuni_read_status(table, sizeof table, port, &word);
-    if (answer == 0) {
+    if (answer == IPAQSUNI_OK) {
         printf("status %" PRIu32 "\n", word);
         return;
     }
@@ -136,7 +136,7 @@ static void tick(uint32_t supply, size_t n) {
     uint64_t a = MARK, b = MARK;
     uint32_t closed = (uint32_t)MARK;
     uint32_t answer = ipaqsuni_tick(table, sizeof table, data, n, supply, &a, &b, &closed);
-    if (answer == 0) {
+    if (answer == IPAQSUNI_OK) {
         printf("ticked %" PRIu64 " %" PRIu64 " %" PRIu32 "\n", a, b, closed);
         return;
     }
@@ -148,7 +148,7 @@ static void tick(uint32_t supply, size_t n) {
 static void search(size_t n) {
     uint64_t offset = MARK, length = MARK;
     uint32_t answer = ipaqsuni_find_power_tlv(data, n, &offset, &length);
-    if (answer == 0) {
+    if (answer == IPAQSUNI_OK) {
         printf("found %" PRIu64 " %" PRIu64 "\n", offset, length);
         return;
     }
@@ -162,7 +162,7 @@ static void take(size_t n) {
     for (int i = 0; i < IPAQSUNI_FIELDS; i++)
         fields[i] = (uint32_t)MARK;
     uint32_t answer = ipaqsuni_read_power_tlv(data, n, fields);
-    if (answer == 0) {
+    if (answer == IPAQSUNI_OK) {
         printf("fields");
         for (int i = 1; i < (fields[IPAQSUNI_FORM] == 7 ? 4 : IPAQSUNI_FIELDS); i++)
             printf(" %" PRIu32, fields[i]);
@@ -187,10 +187,10 @@ static int put(uint32_t form, size_t n) {
     size_t size = (size_t)values[0];
     memset(room, 0xa5, sizeof room);
     uint32_t answer = ipaqsuni_write_power_tlv(fields, room, size, &written);
-    for (size_t i = answer == 0 ? size : 0; i < sizeof room; i++)
+    for (size_t i = answer == IPAQSUNI_OK ? size : 0; i < sizeof room; i++)
         if (room[i] != 0xa5)
             wrote("the room, or a call past it");
-    if (answer == 0) {
+    if (answer == IPAQSUNI_OK) {
         if (written != form + 2) {
             fprintf(stderr, "a TLV of form %" PRIu32 " was written in %" PRIu64 " bytes\n", form, written);
             exit(1);

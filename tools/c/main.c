@@ -30,135 +30,144 @@ static void same(const char *what, const void *got, const void *wanted, size_t n
 static uint8_t table[IPAQSUNI_TABLE];
 
 /* V1 4,000 mV, V2 5,900 mV, I1 0, I2 100 uA, detection done: 1,900/100 is valid. */
-static const uint8_t detected[14] = {0x0f, 0xa0, 0x17, 0x0c, 0, 0, 0, 100, 0, 0, 0, 0, 0, 1};
+static const uint8_t detected[IPAQSUNI_SAMPLE] = {0x0f, 0xa0, 0x17, 0x0c, 0, 0, 0, 100, 0, 0, 0, 0, 0, 1};
 
 /* A tick and the masks that must come of it, with so many ports closed. */
 static void tick(const char *what, uint32_t supply, const uint8_t *samples, size_t n, uint64_t mask_a, uint64_t mask_b, uint32_t closed) {
     uint64_t a = 77, b = 77;
     uint32_t number = 77;
     printf("%s\n", what);
-    is("  tick", ipaqsuni_tick(table, sizeof table, samples, n, supply, &a, &b, &number), 0);
+    is("  tick", ipaqsuni_tick(table, sizeof table, samples, n, supply, &a, &b, &number), IPAQSUNI_OK);
     is("  mask a", a, mask_a);
     is("  mask b", b, mask_b);
     is("  closed", number, closed);
 }
 
 static void shed(void) {
-    static const uint8_t still[14] = {0};
+    static const uint8_t still[IPAQSUNI_SAMPLE] = {0};
     /* C1 10,000 uA, class done: class 1, of 4.0 W. */
-    static const uint8_t classified[14] = {0, 0, 0, 0, 0, 0, 0, 0, 0x27, 0x10, 0, 0, 0, 2};
-    static const uint8_t loaded[14] = {0, 0, 0, 0, 0, 0, 0, 0, 0, 0, 0, 0, 0, 0x20};
+    static const uint8_t classified[IPAQSUNI_SAMPLE] = {0, 0, 0, 0, 0, 0, 0, 0, 0x27, 0x10, 0, 0, 0, 2};
+    static const uint8_t settled[IPAQSUNI_SAMPLE] = {0, 0, 0, 0, 0, 0, 0, 0, 0, 0, 0, 0, 0, 0x24};
     uint32_t status = 77;
 
-    is("cold start of 1 port", ipaqsuni_cold_start(table, sizeof table, 1), 0);
-    is("control: enabled, alternative A", ipaqsuni_write_control(table, sizeof table, 0, 0x0005), 0);
-    tick("DISABLED goes to IDLE", 154, still, 14, 0, 0, 0);
-    tick("IDLE goes to DETECTING", 154, still, 14, 0, 0, 0);
-    tick("a valid signature goes to CLASSIFYING", 154, detected, 14, 0, 0, 0);
-    tick("class 1 goes to POWER_UP: the port is closed", 154, classified, 14, 1, 0, 1);
-    tick("a supply of 3.9 W sheds 4.0 W", 39, loaded, 14, 0, 0, 0);
+    is("cold start of 1 port", ipaqsuni_cold_start(table, sizeof table, 1), IPAQSUNI_OK);
+    is("control: enabled, alternative A", ipaqsuni_write_control(table, sizeof table, 0, 0x0005), IPAQSUNI_OK);
+    tick("DISABLED goes to IDLE", 154, still, IPAQSUNI_SAMPLE, 0, 0, 0);
+    tick("IDLE goes to DETECTING", 154, still, IPAQSUNI_SAMPLE, 0, 0, 0);
+    tick("a valid signature goes to CLASSIFYING", 154, detected, IPAQSUNI_SAMPLE, 0, 0, 0);
+    tick("class 1 goes to POWER_UP: the port is closed", 154, classified, IPAQSUNI_SAMPLE, 1, 0, 1);
+    tick("settled goes to POWER_ON", 154, settled, IPAQSUNI_SAMPLE, 1, 0, 1);
+    is("request of 39: 7.0 W", ipaqsuni_request(table, sizeof table, 0, 39), IPAQSUNI_OVER_CLASS);
+    tick("a supply of 3.9 W sheds 4.0 W", 39, settled, IPAQSUNI_SAMPLE, 0, 0, 0);
     /* Latches 12 denied and 11 valid signature, class 1, condition 1, bit 0. */
-    is("status", ipaqsuni_read_status(table, sizeof table, 0, &status), 0);
+    is("status", ipaqsuni_read_status(table, sizeof table, 0, &status), IPAQSUNI_OK);
     is("  word", status, 0x1813);
-    is("status again", ipaqsuni_read_status(table, sizeof table, 0, &status), 0);
+    is("status again", ipaqsuni_read_status(table, sizeof table, 0, &status), IPAQSUNI_OK);
     is("  word without latches", status, 0x0013);
 }
 
 /* Each refusal leaves the table and the places for answers as they were. */
 static void refusals(void) {
-    uint8_t before[IPAQSUNI_TABLE], samples[14] = {0};
+    uint8_t before[IPAQSUNI_TABLE], samples[IPAQSUNI_SAMPLE] = {0};
     uint64_t a = 77, b = 77;
     uint32_t n = 77, status = 77;
 
     memcpy(before, table, sizeof table);
-    is("cold start of 49 ports", ipaqsuni_cold_start(table, sizeof table, 49), 2);
-    is("cold start in 1,013 bytes", ipaqsuni_cold_start(table, sizeof table - 1, 1), 13);
-    is("control of port 1", ipaqsuni_write_control(table, sizeof table, 1, 0x0005), 2);
-    is("control with enable 11", ipaqsuni_write_control(table, sizeof table, 0, 0x0007), 3);
-    is("control to alternative B", ipaqsuni_write_control(table, sizeof table, 0, 0x0009), 5);
-    is("status of port 1", ipaqsuni_read_status(table, sizeof table, 1, &status), 2);
-    is("request of 256", ipaqsuni_request(table, sizeof table, 0, 256), 10);
-    is("request in IDLE", ipaqsuni_request(table, sizeof table, 0, 1), 5);
-    is("tick on 13 bytes", ipaqsuni_tick(table, sizeof table, samples, 13, 154, &a, &b, &n), 1);
-    is("tick at 60,001", ipaqsuni_tick(table, sizeof table, samples, 14, 60001, &a, &b, &n), 4);
-    samples[13] = 0x40;
-    is("tick with flag 6", ipaqsuni_tick(table, sizeof table, samples, 14, 154, &a, &b, &n), 3);
+    is("cold start of 49 ports", ipaqsuni_cold_start(table, sizeof table, IPAQSUNI_PORTS + 1), IPAQSUNI_NO_SUCH_PORT);
+    is("cold start in 1,013 bytes", ipaqsuni_cold_start(table, sizeof table - 1, 1), IPAQSUNI_ILL_MADE);
+    is("control of port 1", ipaqsuni_write_control(table, sizeof table, 1, 0x0005), IPAQSUNI_NO_SUCH_PORT);
+    is("control with enable 11", ipaqsuni_write_control(table, sizeof table, 0, 0x0007), IPAQSUNI_RESERVED);
+    is("control to alternative B", ipaqsuni_write_control(table, sizeof table, 0, 0x0009), IPAQSUNI_WRONG_STATE);
+    is("status of port 1", ipaqsuni_read_status(table, sizeof table, 1, &status), IPAQSUNI_NO_SUCH_PORT);
+    is("request of 256", ipaqsuni_request(table, sizeof table, 0, 256), IPAQSUNI_BAD_VALUE);
+    is("request in IDLE", ipaqsuni_request(table, sizeof table, 0, 1), IPAQSUNI_WRONG_STATE);
+    is("tick on 13 bytes", ipaqsuni_tick(table, sizeof table, samples, sizeof samples - 1, 154, &a, &b, &n), IPAQSUNI_BAD_LENGTH);
+    is("tick at 60,001", ipaqsuni_tick(table, sizeof table, samples, sizeof samples, 60001, &a, &b, &n), IPAQSUNI_SUPPLY_TOO_LARGE);
+    samples[IPAQSUNI_SAMPLE - 1] = 0x40;
+    is("tick with flag 6", ipaqsuni_tick(table, sizeof table, samples, sizeof samples, 154, &a, &b, &n), IPAQSUNI_RESERVED);
     same("the table is as it was", table, before, sizeof table);
     /* Byte 6 is port 0's state. */
     before[6] = 10;
-    is("tick of a state 10", ipaqsuni_tick(before, sizeof before, samples, 14, 154, &a, &b, &n), 13);
+    is("tick of a state 10", ipaqsuni_tick(before, sizeof before, samples, sizeof samples, 154, &a, &b, &n), IPAQSUNI_ILL_MADE);
     is("the places for answers are as they were", a == 77 && b == 77 && n == 77 && status == 77, 1);
 }
 
 /* A tick of three ports, the last of which has the sample; it is on alternative B. */
-static void tick_last(const char *what, uint32_t supply, const uint8_t sample[14], uint32_t closed) {
-    uint8_t samples[3 * 14] = {0};
-    memcpy(samples + 2 * 14, sample, 14);
+static void tick_last(const char *what, uint32_t supply, const uint8_t sample[IPAQSUNI_SAMPLE], uint32_t closed) {
+    uint8_t samples[3 * IPAQSUNI_SAMPLE] = {0};
+    memcpy(samples + 2 * IPAQSUNI_SAMPLE, sample, IPAQSUNI_SAMPLE);
     tick(what, supply, samples, sizeof samples, 0, closed << 2, closed);
 }
 
 static void requests(void) {
-    static const uint8_t still[14] = {0};
+    static const uint8_t still[IPAQSUNI_SAMPLE] = {0};
     /* C1 and C2 40,000 uA, class done: class 4, of 30.0 W. */
-    static const uint8_t classified[14] = {0, 0, 0, 0, 0, 0, 0, 0, 0x9c, 0x40, 0x9c, 0x40, 0, 2};
-    static const uint8_t settled[14] = {0, 0, 0, 0, 0, 0, 0, 0, 0, 0, 0, 0, 0, 0x24};
+    static const uint8_t classified[IPAQSUNI_SAMPLE] = {0, 0, 0, 0, 0, 0, 0, 0, 0x9c, 0x40, 0x9c, 0x40, 0, 2};
+    static const uint8_t settled[IPAQSUNI_SAMPLE] = {0, 0, 0, 0, 0, 0, 0, 0, 0, 0, 0, 0, 0, 0x24};
     uint32_t status = 77;
 
-    is("cold start of 3 ports", ipaqsuni_cold_start(table, sizeof table, 3), 0);
-    is("control of port 2: enabled, alternative B", ipaqsuni_write_control(table, sizeof table, 2, 0x0009), 0);
+    is("cold start of 3 ports", ipaqsuni_cold_start(table, sizeof table, 3), IPAQSUNI_OK);
+    is("control of port 2: enabled, alternative B", ipaqsuni_write_control(table, sizeof table, 2, 0x0009), IPAQSUNI_OK);
     tick_last("port 2 goes to IDLE", 300, still, 0);
     tick_last("port 2 goes to DETECTING", 300, still, 0);
     tick_last("port 2 goes to CLASSIFYING", 300, detected, 0);
     tick_last("class 4 goes to POWER_UP", 300, classified, 1);
-    is("request in POWER_UP", ipaqsuni_request(table, sizeof table, 2, 38), 5);
+    is("request in POWER_UP", ipaqsuni_request(table, sizeof table, 2, 38), IPAQSUNI_WRONG_STATE);
     tick_last("settled goes to POWER_ON", 300, settled, 1);
-    is("request of 38: 4.0 W", ipaqsuni_request(table, sizeof table, 2, 38), 0);
+    is("request of 38: 4.0 W", ipaqsuni_request(table, sizeof table, 2, 38), IPAQSUNI_OK);
     tick_last("a supply of 4.0 W keeps it", 40, settled, 1);
     tick_last("a supply of 29.9 W keeps it", 299, settled, 1);
-    is("request of 130: 30.0 W", ipaqsuni_request(table, sizeof table, 2, 130), 12);
-    is("request of 129: 15.4 W", ipaqsuni_request(table, sizeof table, 2, 129), 0);
+    is("request of 130: 30.0 W", ipaqsuni_request(table, sizeof table, 2, 130), IPAQSUNI_OVER_SUPPLY);
+    is("request of 129: 15.4 W", ipaqsuni_request(table, sizeof table, 2, 129), IPAQSUNI_OK);
     /* Latch 11 valid signature, class 4, condition 2, bit 0. */
-    is("status of port 2", ipaqsuni_read_status(table, sizeof table, 2, &status), 0);
+    is("status of port 2", ipaqsuni_read_status(table, sizeof table, 2, &status), IPAQSUNI_OK);
     is("  word", status, 0x0845);
     tick_last("a supply of 15.3 W sheds it", 153, settled, 0);
     /* Latch 12 denied, class 4, condition 1, bit 0. */
-    is("status of port 2", ipaqsuni_read_status(table, sizeof table, 2, &status), 0);
+    is("status of port 2", ipaqsuni_read_status(table, sizeof table, 2, &status), IPAQSUNI_OK);
     is("  word", status, 0x1043);
 }
 
 static void frames(void) {
     static const uint8_t pdu[] = {0x02, 0x07, 0x04, 0x00, 0x11, 0x22, 0x33, 0x44, 0x55, 0xfe, 0x0c, 0x00, 0x12,
                                   0x0f, 0x02, 0x00, 0x01, 0x05, 0x52, 0x00, 0xff, 0x00, 0x82, 0x00, 0x00};
+    static const uint8_t blank[IPAQSUNI_LONGEST_PDU + 1] = {0};
     static const uint32_t wanted[IPAQSUNI_FIELDS] = {12, 0, 1, 5, 1, 1, 2, 255, 130};
     static const char *names[IPAQSUNI_FIELDS] = {"  form",   "  support",  "  pair",      "  class",    "  type",
                                                  "  source", "  priority", "  requested", "  allocated"};
-    uint8_t room[16];
+    uint8_t room[IPAQSUNI_LONGEST_TLV + 2], twice[2 * IPAQSUNI_LONGEST_TLV];
     uint32_t fields[IPAQSUNI_FIELDS] = {0};
     uint64_t offset = 77, length = 77, written = 77;
 
-    is("find the power TLV", ipaqsuni_find_power_tlv(pdu, sizeof pdu, &offset, &length), 0);
+    is("find the power TLV", ipaqsuni_find_power_tlv(pdu, sizeof pdu, &offset, &length), IPAQSUNI_OK);
     is("  offset", offset, 9);
-    is("  length", length, 14);
-    is("read it", ipaqsuni_read_power_tlv(pdu + 9, 14, fields), 0);
+    is("  length", length, IPAQSUNI_LONGEST_TLV);
+    is("read it", ipaqsuni_read_power_tlv(pdu + 9, IPAQSUNI_LONGEST_TLV, fields), IPAQSUNI_OK);
     for (int i = 0; i < IPAQSUNI_FIELDS; i++)
         is(names[i], fields[i], wanted[i]);
     memset(room, 0xa5, sizeof room);
-    is("write it in 13 bytes", ipaqsuni_write_power_tlv(fields, room, 13, &written), 1);
+    is("write it in 13 bytes", ipaqsuni_write_power_tlv(fields, room, IPAQSUNI_LONGEST_TLV - 1, &written), IPAQSUNI_BAD_LENGTH);
     is("  the room is as it was", room[0], 0xa5);
-    is("write it", ipaqsuni_write_power_tlv(fields, room, sizeof room, &written), 0);
-    is("  written", written, 14);
-    same("  the same bytes", room, pdu + 9, 14);
-    is("  the room past it", room[14], 0xa5);
+    is("write it", ipaqsuni_write_power_tlv(fields, room, sizeof room, &written), IPAQSUNI_OK);
+    is("  written", written, IPAQSUNI_LONGEST_TLV);
+    same("  the same bytes", room, pdu + 9, IPAQSUNI_LONGEST_TLV);
+    is("  the room past it", room[IPAQSUNI_LONGEST_TLV], 0xa5);
     fields[IPAQSUNI_FORM] = 8;
-    is("write form 8", ipaqsuni_write_power_tlv(fields, room, sizeof room, &written), 3);
+    is("write form 8", ipaqsuni_write_power_tlv(fields, room, sizeof room, &written), IPAQSUNI_RESERVED);
     fields[IPAQSUNI_FORM] = 7;
-    is("write form 7", ipaqsuni_write_power_tlv(fields, room, sizeof room, &written), 0);
+    is("write form 7", ipaqsuni_write_power_tlv(fields, room, sizeof room, &written), IPAQSUNI_OK);
     is("  written", written, 9);
-    is("read form 7", ipaqsuni_read_power_tlv(room, 9, fields), 0);
+    is("read form 7", ipaqsuni_read_power_tlv(room, 9, fields), IPAQSUNI_OK);
     is("  form", fields[IPAQSUNI_FORM], 7);
     is("  requested", fields[IPAQSUNI_REQUESTED], 0);
-    is("read it cut", ipaqsuni_read_power_tlv(room, 8, fields), 6);
-    is("find in an empty PDU", ipaqsuni_find_power_tlv(pdu, 0, &offset, &length), 7);
+    is("read it cut", ipaqsuni_read_power_tlv(room, 8, fields), IPAQSUNI_CUT);
+    memcpy(twice, pdu + 9, IPAQSUNI_LONGEST_TLV);
+    memcpy(twice + IPAQSUNI_LONGEST_TLV, pdu + 9, IPAQSUNI_LONGEST_TLV);
+    is("read it twice", ipaqsuni_read_power_tlv(twice, sizeof twice, fields), IPAQSUNI_NOT_ONE_TLV);
+    is("find it twice", ipaqsuni_find_power_tlv(twice, sizeof twice, &offset, &length), IPAQSUNI_SEVERAL_TLVS);
+    is("find in an empty PDU", ipaqsuni_find_power_tlv(pdu, 0, &offset, &length), IPAQSUNI_NO_TLV);
+    is("find in 1,500 bytes", ipaqsuni_find_power_tlv(blank, sizeof blank - 1, &offset, &length), IPAQSUNI_NO_TLV);
+    is("find in 1,501 bytes", ipaqsuni_find_power_tlv(blank, sizeof blank, &offset, &length), IPAQSUNI_BAD_LENGTH);
 }
 
 int main(int argc, char **argv) {

@@ -2,12 +2,24 @@
 
 use std::ffi::c_uint;
 
-pub const TABLE: usize = 1_014;
+/// The numbers that the header names, made from it by build.rs.
+#[allow(dead_code)]
+pub mod header {
+    include!(concat!(env!("OUT_DIR"), "/numbers.rs"));
+}
+
+pub const TABLE: usize = header::TABLE as usize;
+pub const SAMPLE: usize = header::SAMPLE as usize;
+pub const LONGEST_PDU: usize = header::LONGEST_PDU as usize;
+pub const LONGEST_TLV: usize = header::LONGEST_TLV as usize;
 
 /// The number of a refusal.
 pub type Refusal = u32;
 
-pub type Fields = [u32; 9];
+/// A power TLV's fields, and the places of two of them.
+pub type Fields = [u32; header::FIELDS as usize];
+pub const FORM: usize = header::FORM as usize;
+pub const REQUESTED: usize = header::REQUESTED as usize;
 
 #[derive(Clone, Copy, PartialEq, Eq, Debug)]
 pub struct Ticked {
@@ -57,7 +69,7 @@ const MARK: u64 = 0x5a5a_5a5a_5a5a_5a5a;
 
 fn answer<T>(number: Refusal, accepted: T, untouched: bool) -> Result<T, Refusal> {
     match number {
-        0 => Ok(accepted),
+        header::OK => Ok(accepted),
         _ if untouched => Err(number),
         _ => panic!("refusal {number} wrote a place for an answer"),
     }
@@ -118,10 +130,11 @@ pub fn find_power_tlv(pdu: &[u8]) -> Result<(u64, u64), Refusal> {
 }
 
 pub fn read_power_tlv(tlv: &[u8]) -> Result<Fields, Refusal> {
-    let mut fields = [MARK as u32; 9];
+    let blank = [MARK as u32; header::FIELDS as usize];
+    let mut fields = blank;
     // SAFETY: the pointer is to as many bytes as are said; the nine places are a local's.
     let number = unsafe { ipaqsuni_read_power_tlv(tlv.as_ptr(), tlv.len(), fields.as_mut_ptr()) };
-    answer(number, fields, fields == [MARK as u32; 9])
+    answer(number, fields, fields == blank)
 }
 
 pub fn write_power_tlv(fields: &Fields, room: &mut [u8]) -> Result<u64, Refusal> {

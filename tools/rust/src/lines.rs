@@ -6,7 +6,7 @@
 //!
 //! A refusal that wrote, and a written TLV of another length than its form's, end the program with status 1.
 
-use crate::core::{self, Fields, Refusal, TABLE};
+use crate::core::{self, Fields, Refusal, FORM, TABLE};
 use std::io::{self, BufRead, Write};
 use std::process::ExitCode;
 
@@ -66,7 +66,7 @@ fn said(answer: Result<String, Refusal>) -> Option<String> {
 }
 
 fn fields_text(fields: Fields) -> String {
-    let shown = if fields[0] == 7 { &fields[1..4] } else { &fields[1..] };
+    let shown = if fields[FORM] == 7 { &fields[1..4] } else { &fields[1..] };
     shown.iter().fold("fields".to_string(), |line, field| format!("{line} {field}"))
 }
 
@@ -82,8 +82,8 @@ fn written(form: u32, words: &[&[u8]]) -> Option<String> {
     if values[0] > LONGEST_ROOM || values[1..4].iter().any(|&octet| octet > 255) {
         return None;
     }
-    let mut fields: Fields = [0; 9];
-    fields[0] = form;
+    let mut fields = Fields::default();
+    fields[FORM] = form;
     for (place, &value) in values.iter().enumerate().skip(1) {
         fields[place] = narrow(value);
     }

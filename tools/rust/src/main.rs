@@ -8,7 +8,8 @@
 mod core;
 mod lines;
 
-use crate::core::{Fields, Refusal, Ticked, TABLE};
+use crate::core::{header, Fields, Refusal, Ticked};
+use crate::core::{FORM, LONGEST_PDU, LONGEST_TLV, REQUESTED, SAMPLE, TABLE};
 use std::process::ExitCode;
 
 struct Shown {
@@ -25,7 +26,7 @@ impl Shown {
     }
 
     fn answers<T>(&mut self, what: &str, got: Result<T, Refusal>, wanted: Refusal) -> Option<T> {
-        let number = got.as_ref().err().copied().unwrap_or(0);
+        let number = got.as_ref().err().copied().unwrap_or(header::OK);
         self.is(what, number.into(), wanted.into());
         got.ok()
     }
@@ -33,7 +34,7 @@ impl Shown {
     /// The numbers of an accepted call, each by its name; a refused one has none, and differs already.
     fn ticked(&mut self, what: &str, got: Result<Ticked, Refusal>, wanted: Ticked) {
         println!("{what}");
-        if let Some(t) = self.answers("  tick", got, 0) {
+        if let Some(t) = self.answers("  tick", got, header::OK) {
             self.is("  mask a", t.mask_a, wanted.mask_a);
             self.is("  mask b", t.mask_b, wanted.mask_b);
             self.is("  closed", t.closed.into(), wanted.closed.into());
@@ -41,7 +42,14 @@ impl Shown {
     }
 
     /// A tick of one port, on alternative A.
-    fn tick(&mut self, what: &str, table: &mut [u8], supply: u32, sample: [u8; 14], closed: u32) {
+    fn tick(
+        &mut self,
+        what: &str,
+        table: &mut [u8],
+        supply: u32,
+        sample: [u8; SAMPLE],
+        closed: u32,
+    ) {
         let wanted = Ticked { mask_a: closed.into(), mask_b: 0, closed };
         self.ticked(what, core::tick(table, &sample, supply), wanted);
     }
@@ -52,38 +60,40 @@ impl Shown {
         what: &str,
         table: &mut [u8],
         supply: u32,
-        sample: [u8; 14],
+        sample: [u8; SAMPLE],
         closed: u32,
     ) {
-        let mut samples = [0; 3 * 14];
-        samples[2 * 14..].copy_from_slice(&sample);
+        let mut samples = [0; 3 * SAMPLE];
+        samples[2 * SAMPLE..].copy_from_slice(&sample);
         let wanted = Ticked { mask_a: 0, mask_b: u64::from(closed) << 2, closed };
         self.ticked(what, core::tick(table, &samples, supply), wanted);
     }
 }
 
 /// V1 4,000 mV, V2 5,900 mV, I1 0, I2 100 uA, detection done: 1,900/100 is valid.
-const DETECTED: [u8; 14] = [0x0f, 0xa0, 0x17, 0x0c, 0, 0, 0, 100, 0, 0, 0, 0, 0, 1];
+const DETECTED: [u8; SAMPLE] = [0x0f, 0xa0, 0x17, 0x0c, 0, 0, 0, 100, 0, 0, 0, 0, 0, 1];
 
 fn shed(shown: &mut Shown, table: &mut [u8]) {
-    let still = [0; 14];
+    let still = [0; SAMPLE];
     // C1 10,000 uA, class done: class 1, of 4.0 W.
     let classified = [0, 0, 0, 0, 0, 0, 0, 0, 0x27, 0x10, 0, 0, 0, 2];
-    let loaded = [0, 0, 0, 0, 0, 0, 0, 0, 0, 0, 0, 0, 0, 0x20];
+    let settled = [0, 0, 0, 0, 0, 0, 0, 0, 0, 0, 0, 0, 0, 0x24];
 
-    shown.answers("cold start of 1 port", core::cold_start(table, 1), 0);
+    shown.answers("cold start of 1 port", core::cold_start(table, 1), header::OK);
     let control = core::write_control(table, 0, 0x0005);
-    shown.answers("control: enabled, alternative A", control, 0);
+    shown.answers("control: enabled, alternative A", control, header::OK);
     shown.tick("DISABLED goes to IDLE", table, 154, still, 0);
     shown.tick("IDLE goes to DETECTING", table, 154, still, 0);
     shown.tick("a valid signature goes to CLASSIFYING", table, 154, DETECTED, 0);
     shown.tick("class 1 goes to POWER_UP: the port is closed", table, 154, classified, 1);
-    shown.tick("a supply of 3.9 W sheds 4.0 W", table, 39, loaded, 0);
+    shown.tick("settled goes to POWER_ON", table, 154, settled, 1);
+    shown.answers("request of 39: 7.0 W", core::request(table, 0, 39), header::OVER_CLASS);
+    shown.tick("a supply of 3.9 W sheds 4.0 W", table, 39, settled, 0);
     // Latches 12 denied and 11 valid signature, class 1, condition 1, bit 0.
-    if let Some(word) = shown.answers("status", core::read_status(table, 0), 0) {
+    if let Some(word) = shown.answers("status", core::read_status(table, 0), header::OK) {
         shown.is("  word", word.into(), 0x1813);
     }
-    if let Some(word) = shown.answers("status again", core::read_status(table, 0), 0) {
+    if let Some(word) = shown.answers("status again", core::read_status(table, 0), header::OK) {
         shown.is("  word without latches", word.into(), 0x0013);
     }
 }
@@ -91,53 +101,73 @@ fn shed(shown: &mut Shown, table: &mut [u8]) {
 /// Each refusal leaves the table and the places for answers as they were; `core` has seen the latter at every call.
 fn refusals(shown: &mut Shown, table: &mut [u8]) {
     let mut before = table.to_vec();
-    let mut samples = [0; 14];
-    shown.answers("cold start of 49 ports", core::cold_start(table, 49), 2);
-    shown.answers("cold start in 1,013 bytes", core::cold_start(&mut table[..TABLE - 1], 1), 13);
-    shown.answers("control of port 1", core::write_control(table, 1, 0x0005), 2);
-    shown.answers("control with enable 11", core::write_control(table, 0, 0x0007), 3);
-    shown.answers("control to alternative B", core::write_control(table, 0, 0x0009), 5);
-    shown.answers("status of port 1", core::read_status(table, 1), 2);
-    shown.answers("request of 256", core::request(table, 0, 256), 10);
-    shown.answers("request in IDLE", core::request(table, 0, 1), 5);
-    shown.answers("tick on 13 bytes", core::tick(table, &samples[..13], 154), 1);
-    shown.answers("tick at 60,001", core::tick(table, &samples, 60_001), 4);
-    samples[13] = 0x40;
-    shown.answers("tick with flag 6", core::tick(table, &samples, 154), 3);
+    let mut samples = [0; SAMPLE];
+    shown.answers(
+        "cold start of 49 ports",
+        core::cold_start(table, header::PORTS + 1),
+        header::NO_SUCH_PORT,
+    );
+    shown.answers(
+        "cold start in 1,013 bytes",
+        core::cold_start(&mut table[..TABLE - 1], 1),
+        header::ILL_MADE,
+    );
+    shown.answers("control of port 1", core::write_control(table, 1, 0x0005), header::NO_SUCH_PORT);
+    shown.answers(
+        "control with enable 11",
+        core::write_control(table, 0, 0x0007),
+        header::RESERVED,
+    );
+    shown.answers(
+        "control to alternative B",
+        core::write_control(table, 0, 0x0009),
+        header::WRONG_STATE,
+    );
+    shown.answers("status of port 1", core::read_status(table, 1), header::NO_SUCH_PORT);
+    shown.answers("request of 256", core::request(table, 0, 256), header::BAD_VALUE);
+    shown.answers("request in IDLE", core::request(table, 0, 1), header::WRONG_STATE);
+    shown.answers(
+        "tick on 13 bytes",
+        core::tick(table, &samples[..SAMPLE - 1], 154),
+        header::BAD_LENGTH,
+    );
+    shown.answers("tick at 60,001", core::tick(table, &samples, 60_001), header::SUPPLY_TOO_LARGE);
+    samples[SAMPLE - 1] = 0x40;
+    shown.answers("tick with flag 6", core::tick(table, &samples, 154), header::RESERVED);
     shown.is("the table is as it was", u64::from(before == table), 1);
     // Byte 6 is port 0's state.
     before[6] = 10;
-    shown.answers("tick of a state 10", core::tick(&mut before, &samples, 154), 13);
+    shown.answers("tick of a state 10", core::tick(&mut before, &samples, 154), header::ILL_MADE);
     shown.is("the places for answers are as they were", 1, 1);
 }
 
 fn requests(shown: &mut Shown, table: &mut [u8]) {
-    let still = [0; 14];
+    let still = [0; SAMPLE];
     // C1 and C2 40,000 uA, class done: class 4, of 30.0 W.
     let classified = [0, 0, 0, 0, 0, 0, 0, 0, 0x9c, 0x40, 0x9c, 0x40, 0, 2];
     let settled = [0, 0, 0, 0, 0, 0, 0, 0, 0, 0, 0, 0, 0, 0x24];
 
-    shown.answers("cold start of 3 ports", core::cold_start(table, 3), 0);
+    shown.answers("cold start of 3 ports", core::cold_start(table, 3), header::OK);
     let control = core::write_control(table, 2, 0x0009);
-    shown.answers("control of port 2: enabled, alternative B", control, 0);
+    shown.answers("control of port 2: enabled, alternative B", control, header::OK);
     shown.tick_last("port 2 goes to IDLE", table, 300, still, 0);
     shown.tick_last("port 2 goes to DETECTING", table, 300, still, 0);
     shown.tick_last("port 2 goes to CLASSIFYING", table, 300, DETECTED, 0);
     shown.tick_last("class 4 goes to POWER_UP", table, 300, classified, 1);
-    shown.answers("request in POWER_UP", core::request(table, 2, 38), 5);
+    shown.answers("request in POWER_UP", core::request(table, 2, 38), header::WRONG_STATE);
     shown.tick_last("settled goes to POWER_ON", table, 300, settled, 1);
-    shown.answers("request of 38: 4.0 W", core::request(table, 2, 38), 0);
+    shown.answers("request of 38: 4.0 W", core::request(table, 2, 38), header::OK);
     shown.tick_last("a supply of 4.0 W keeps it", table, 40, settled, 1);
     shown.tick_last("a supply of 29.9 W keeps it", table, 299, settled, 1);
-    shown.answers("request of 130: 30.0 W", core::request(table, 2, 130), 12);
-    shown.answers("request of 129: 15.4 W", core::request(table, 2, 129), 0);
+    shown.answers("request of 130: 30.0 W", core::request(table, 2, 130), header::OVER_SUPPLY);
+    shown.answers("request of 129: 15.4 W", core::request(table, 2, 129), header::OK);
     // Latch 11 valid signature, class 4, condition 2, bit 0.
-    if let Some(word) = shown.answers("status of port 2", core::read_status(table, 2), 0) {
+    if let Some(word) = shown.answers("status of port 2", core::read_status(table, 2), header::OK) {
         shown.is("  word", word.into(), 0x0845);
     }
     shown.tick_last("a supply of 15.3 W sheds it", table, 153, settled, 0);
     // Latch 12 denied, class 4, condition 1, bit 0.
-    if let Some(word) = shown.answers("status of port 2", core::read_status(table, 2), 0) {
+    if let Some(word) = shown.answers("status of port 2", core::read_status(table, 2), header::OK) {
         shown.is("  word", word.into(), 0x1043);
     }
 }
@@ -159,41 +189,54 @@ fn frames(shown: &mut Shown) {
         "requested",
         "allocated",
     ];
-    let found = shown.answers("find the power TLV", core::find_power_tlv(&pdu), 0);
+    let tlv = &pdu[9..9 + LONGEST_TLV];
+    let found = shown.answers("find the power TLV", core::find_power_tlv(&pdu), header::OK);
     if let Some((offset, length)) = found {
         shown.is("  offset", offset, 9);
-        shown.is("  length", length, 14);
+        shown.is("  length", length, LONGEST_TLV as u64);
     }
-    if let Some(fields) = shown.answers("read it", core::read_power_tlv(&pdu[9..23]), 0) {
+    if let Some(fields) = shown.answers("read it", core::read_power_tlv(tlv), header::OK) {
         for (i, name) in names.iter().enumerate() {
             shown.is(&format!("  {name}"), fields[i].into(), wanted[i].into());
         }
     }
-    written(shown, wanted, &pdu[9..23]);
-    shown.answers("find in an empty PDU", core::find_power_tlv(&[]), 7);
+    written(shown, wanted, tlv);
+    let twice = [tlv, tlv].concat();
+    shown.answers("read it twice", core::read_power_tlv(&twice), header::NOT_ONE_TLV);
+    shown.answers("find it twice", core::find_power_tlv(&twice), header::SEVERAL_TLVS);
+    shown.answers("find in an empty PDU", core::find_power_tlv(&[]), header::NO_TLV);
+    let blank = [0; LONGEST_PDU + 1];
+    let longest = core::find_power_tlv(&blank[..LONGEST_PDU]);
+    shown.answers("find in 1,500 bytes", longest, header::NO_TLV);
+    shown.answers("find in 1,501 bytes", core::find_power_tlv(&blank), header::BAD_LENGTH);
 }
 
 fn written(shown: &mut Shown, mut fields: Fields, tlv: &[u8]) {
-    let mut room = [0xa5; 16];
-    let cut = core::write_power_tlv(&fields, &mut room[..13]);
-    shown.answers("write it in 13 bytes", cut, 1);
+    let mut room = [0xa5; LONGEST_TLV + 2];
+    let cut = core::write_power_tlv(&fields, &mut room[..LONGEST_TLV - 1]);
+    shown.answers("write it in 13 bytes", cut, header::BAD_LENGTH);
     shown.is("  the room is as it was", room[0].into(), 0xa5);
-    if let Some(n) = shown.answers("write it", core::write_power_tlv(&fields, &mut room), 0) {
-        shown.is("  written", n, 14);
+    if let Some(n) =
+        shown.answers("write it", core::write_power_tlv(&fields, &mut room), header::OK)
+    {
+        shown.is("  written", n, LONGEST_TLV as u64);
     }
-    shown.is("  the same bytes", u64::from(&room[..14] == tlv), 1);
-    shown.is("  the room past it", room[14].into(), 0xa5);
-    fields[0] = 8;
-    shown.answers("write form 8", core::write_power_tlv(&fields, &mut room), 3);
-    fields[0] = 7;
-    if let Some(n) = shown.answers("write form 7", core::write_power_tlv(&fields, &mut room), 0) {
+    shown.is("  the same bytes", u64::from(&room[..LONGEST_TLV] == tlv), 1);
+    shown.is("  the room past it", room[LONGEST_TLV].into(), 0xa5);
+    fields[FORM] = 8;
+    shown.answers("write form 8", core::write_power_tlv(&fields, &mut room), header::RESERVED);
+    fields[FORM] = 7;
+    if let Some(n) =
+        shown.answers("write form 7", core::write_power_tlv(&fields, &mut room), header::OK)
+    {
         shown.is("  written", n, 9);
     }
-    if let Some(fields) = shown.answers("read form 7", core::read_power_tlv(&room[..9]), 0) {
-        shown.is("  form", fields[0].into(), 7);
-        shown.is("  requested", fields[7].into(), 0);
+    if let Some(fields) = shown.answers("read form 7", core::read_power_tlv(&room[..9]), header::OK)
+    {
+        shown.is("  form", fields[FORM].into(), 7);
+        shown.is("  requested", fields[REQUESTED].into(), 0);
     }
-    shown.answers("read it cut", core::read_power_tlv(&room[..8]), 6);
+    shown.answers("read it cut", core::read_power_tlv(&room[..8]), header::CUT);
 }
 
 fn main() -> ExitCode {
