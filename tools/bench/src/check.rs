@@ -1,7 +1,10 @@
-//! That the plain tick, the proved one and the reference compute the same; no time is taken.
+//! That the two plain ticks, the proved one and the reference compute the same; no time is taken.
 
+use crate::lent::{self, cells};
 use crate::plain::form::{Closed, HIGHEST_SUPPLY, PLACES};
-use crate::plain::{image, laps};
+use crate::plain::image;
+use crate::plain::laps::{self, Laps};
+use crate::strange::Strange;
 use crate::{frames, mixes, proved, ticked};
 use reference::lines::{parsed, Console, Line};
 use reference::random::Random;
@@ -26,7 +29,8 @@ fn by_plain(before: &[u8], block: &[u8], figure: u64) -> Result<Outcome, String>
 fn by_proof(before: &[u8], block: &[u8], figure: u64) -> Option<Outcome> {
     let figure = u16::try_from(figure).ok()?.to_be_bytes();
     let mut after = before.to_vec();
-    let sum = proved::tick(&mut after, block, block.len(), &figure, 1, 0);
+    let laps = Laps { blocks: block, size: block.len(), figures: &figure, ticks: 1, restore: 0 };
+    let sum = proved::tick(&mut after, &laps);
     Some((sum, after))
 }
 
@@ -38,20 +42,23 @@ fn by_reference(console: &mut Console, block: &[u8], figure: u64) -> Outcome {
     (laps::closed(0, answer), reference::image::written(&console.table))
 }
 
-/// One tick by all three.
+/// One tick by all.
 fn compared(console: &mut Console, block: &[u8], figure: u64) -> Result<u64, String> {
     let before = reference::image::written(&console.table);
-    let plain = by_plain(&before, block, figure)?;
-    let proof = by_proof(&before, block, figure);
     let wanted = by_reference(console, block, figure);
-    let case = || format!("image {before:02x?} block {block:02x?} figure {figure}");
-    if plain != wanted {
-        return Err(format!("the plain tick differs from the reference: {}", case()));
+    let (cells, answer) = lent::laps::one(&cells::of_image(&before), block, figure);
+    let lent = (laps::closed(0, answer), cells);
+    let differing = [
+        ("the plain tick", by_plain(&before, block, figure)? != wanted),
+        ("the plain tick of the lent shape", lent != (wanted.0, cells::of_image(&wanted.1))),
+        ("the proved tick", by_proof(&before, block, figure).is_some_and(|proof| proof != wanted)),
+    ];
+    match differing.iter().find(|(_, differs)| *differs) {
+        None => Ok(wanted.0),
+        Some((name, _)) => Err(format!(
+            "{name} differs from the reference: image {before:02x?} block {block:02x?} figure {figure}"
+        )),
     }
-    if proof.is_some_and(|proof| proof != plain) {
-        return Err(format!("the proved tick differs from the plain one: {}", case()));
-    }
-    Ok(plain.0)
 }
 
 fn kind(of: &str) -> Kind {
@@ -201,6 +208,20 @@ fn random_tables() -> Result<(), String> {
     Ok(())
 }
 
+/// Tables from nowhere once more, with what no image holds.
+fn strange_cells() -> Result<(), String> {
+    let mut r = Random::new(14);
+    let mut strange = Strange::default();
+    for _ in 0..RANDOM_TABLES {
+        let count = r.between(1, PLACES as u64) as u16;
+        let ill = r.chance(10);
+        let image = table(&mut r, count, ill);
+        let block = block(&mut r, count, false);
+        strange.cells(&mut r, &image, &block)?;
+    }
+    strange.print()
+}
+
 fn looks(root: &Path) -> Result<(), String> {
     let stored = frames::stored(root);
     for (name, records) in
@@ -219,13 +240,14 @@ fn looks(root: &Path) -> Result<(), String> {
 }
 
 pub fn all(root: &Path) -> Result<(), String> {
-    println!("check: the plain program, the proved one and the reference");
+    println!("check: the plain programs, the proved one and the reference");
     for short in [false, true] {
         let mix = mixes::mix(if short { "short of supply" } else { "every claim fits" }, 48, short);
         ticked(&mix, MIX_TICKS, 1)?;
         println!("  {}: {MIX_TICKS} ticks, no difference", mix.name);
     }
     random_tables()?;
+    strange_cells()?;
     for (seed, name) in (1..).zip(["walks", "limits", "illmade", "mixed"]) {
         script(seed, name)?;
     }

@@ -1,4 +1,4 @@
-//! Two programs in turn, round by round, so that whatever else the machine does hits both.
+//! Programs in turn, round by round, so that whatever else the machine does hits all.
 
 use std::hint::black_box;
 use std::time::Instant;
@@ -22,29 +22,19 @@ fn times(mut rounds: Vec<f64>) -> Times {
     Times { best: rounds[0], median: rounds[rounds.len() / 2] }
 }
 
-pub struct Pair {
-    pub plain: Times,
-    pub proved: Times,
+impl Times {
+    pub fn print(&self, name: &str, what: &str) {
+        println!("  {name:<11} best {:>8.1}  median {:>8.1}  ns a {what}", self.best, self.median);
+    }
+
+    /// To another's, best and median.
+    pub fn to(&self, other: &Times) -> [f64; 2] {
+        [self.best / other.best, self.median / other.median]
+    }
 }
 
-impl Pair {
-    /// Of the medians.
-    pub fn ratio(&self) -> f64 {
-        self.proved.median / self.plain.median
-    }
-
-    pub fn print(&self, what: &str) {
-        let line = |name: &str, t: &Times| {
-            println!("  {name:<8} best {:>8.1}  median {:>8.1}  ns a {what}", t.best, t.median)
-        };
-        line("plain", &self.plain);
-        line("proved", &self.proved);
-        println!(
-            "  ratio    best {:>8.2}  median {:>8.2}",
-            self.proved.best / self.plain.best,
-            self.ratio()
-        );
-    }
+pub fn print_ratio(name: &str, [best, median]: [f64; 2]) {
+    println!("  {name:<11} best {best:>8.2}  median {median:>8.2}");
 }
 
 fn timed<T>(calls: u64, run: &mut impl FnMut() -> T) -> (f64, T) {
@@ -56,22 +46,23 @@ fn timed<T>(calls: u64, run: &mut impl FnMut() -> T) -> (f64, T) {
     (used / calls as f64, answer)
 }
 
-/// Each round runs `calls` calls of both. None if what they answer differs.
-pub fn alternate<T: PartialEq>(
+/// Each round runs `calls` calls of every program. None if what they answer differs.
+pub fn alternate<T: PartialEq, const N: usize>(
     rounds: usize,
     calls: u64,
-    mut plain: impl FnMut() -> T,
-    mut proved: impl FnMut() -> T,
-) -> Option<Pair> {
-    let (mut of_plain, mut of_proved) = (Vec::new(), Vec::new());
+    mut programs: [&mut dyn FnMut() -> T; N],
+) -> Option<[Times; N]> {
+    let mut all = [(); N].map(|()| Vec::new());
     for _ in 0..rounds {
-        let (time, answer) = timed(calls, &mut plain);
-        let (other_time, other) = timed(calls, &mut proved);
-        if answer != other {
+        let mut answers = Vec::new();
+        for (program, times) in programs.iter_mut().zip(&mut all) {
+            let (time, answer) = timed(calls, program);
+            times.push(time);
+            answers.push(answer);
+        }
+        if answers.iter().any(|answer| *answer != answers[0]) {
             return None;
         }
-        of_plain.push(time);
-        of_proved.push(other_time);
     }
-    Some(Pair { plain: times(of_plain), proved: times(of_proved) })
+    Some(all.map(times))
 }

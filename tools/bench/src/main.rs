@@ -1,4 +1,4 @@
-//! Times the proved tick, search and reader beside plain Rust that does the same, and sees that both compute the same.
+//! Times the proved tick, search and reader beside plain Rust that does the same, and sees that all compute the same.
 //!
 //!     bench ROOT            times; ends with 1 at a difference
 //!     bench ROOT --check    compares alone: few ticks of the mixes, random tables, and the reference's scripts
@@ -6,14 +6,16 @@
 mod check;
 mod clock;
 mod frames;
+mod lent;
 mod mixes;
 mod plain;
 mod proved;
+mod strange;
 
-use clock::{alternate, Pair};
+use clock::{alternate, print_ratio, Times};
 use frames::Records;
-use mixes::{Mix, RESTORE};
-use plain::laps;
+use mixes::Mix;
+use plain::laps::{self, Laps};
 use std::path::Path;
 use std::process::ExitCode;
 
@@ -23,51 +25,75 @@ const GROWTH: [usize; 9] = [1, 2, 4, 8, 16, 24, 32, 40, 48];
 const GROWTH_TICKS: u64 = 200_000;
 const CALLS: u64 = 2_000_000;
 
-type Run = fn(&mut [u8], &[u8], usize, &[u8], u64, u64) -> u64;
+type Run = fn(&mut [u8], &Laps) -> u64;
 type Look = fn(&[u8], usize, u64) -> u64;
 
 /// The checksum of all answers, and the image of the table that is left.
 fn ran(run: Run, mix: &Mix, ticks: u64) -> (u64, Vec<u8>) {
     let mut image = mix.image.clone();
-    let sum = run(&mut image, &mix.blocks, mix.size, &mix.figures, ticks, RESTORE);
+    let sum = run(&mut image, &mix.laps(ticks));
     (sum, image)
 }
 
-fn ticked(mix: &Mix, ticks: u64, rounds: usize) -> Result<Pair, String> {
-    alternate(rounds, ticks, || ran(laps::run, mix, ticks), || ran(proved::tick, mix, ticks))
-        .ok_or(format!("{}: the two ticks differ", mix.name))
+/// A tick of each shape, on the same mix.
+struct Ticked {
+    plain: Times,
+    lent: Times,
+    proved: Times,
+}
+
+fn ticked(mix: &Mix, ticks: u64, rounds: usize) -> Result<Ticked, String> {
+    let [plain, lent, proved] = alternate(
+        rounds,
+        ticks,
+        [&mut || ran(laps::run, mix, ticks), &mut || ran(lent::laps::run, mix, ticks), &mut || {
+            ran(proved::tick, mix, ticks)
+        }],
+    )
+    .ok_or(format!("{}: the ticks differ", mix.name))?;
+    Ok(Ticked { plain, lent, proved })
 }
 
 fn looked(name: &str, records: &Records, plain: Look, proved: Look) -> Result<(), String> {
     let calls = CALLS - CALLS % records.number;
-    let pair = alternate(
+    let [plain, proved] = alternate(
         ROUNDS,
         calls,
-        || plain(&records.bytes, records.size, calls),
-        || proved(&records.bytes, records.size, calls),
-    );
+        [&mut || plain(&records.bytes, records.size, calls), &mut || {
+            proved(&records.bytes, records.size, calls)
+        }],
+    )
+    .ok_or(format!("{name}: the two differ"))?;
     println!("{name}: {} stored records in turn, {calls} calls a round", records.number);
-    pair.ok_or(format!("{name}: the two differ"))?.print("call");
+    plain.print("plain", "call");
+    proved.print("proved", "call");
+    print_ratio("ratio", proved.to(&plain));
     Ok(())
 }
 
 fn mixed(mix: &Mix) -> Result<f64, String> {
     println!("{}: {TICKS} ticks of 48 ports a round, {ROUNDS} rounds of each in turn", mix.name);
     mixes::made(mix).print();
-    let pair = ticked(mix, TICKS, ROUNDS)?;
-    pair.print("tick");
-    Ok(pair.ratio())
+    let Ticked { plain, lent, proved } = ticked(mix, TICKS, ROUNDS)?;
+    plain.print("plain", "tick");
+    lent.print("plain, lent", "tick");
+    proved.print("proved", "tick");
+    print_ratio("ratio", proved.to(&plain));
+    print_ratio("to lent", proved.to(&lent));
+    Ok(proved.to(&plain)[1])
 }
 
 fn growth() -> Result<(), String> {
-    println!("growth with the ports, all claims fit: ns a tick, {GROWTH_TICKS} ticks a round");
-    println!("  ports      plain best  median     proved best  median     ratio best  median");
+    println!("growth with the ports, all claims fit: ns a tick, best / median, and the proved tick's ratios, of medians");
+    println!("  {GROWTH_TICKS} ticks a round");
+    println!("  ports           plain     plain, lent          proved  to plain  to lent");
     for count in GROWTH {
-        let pair = ticked(&mixes::mix("growth", count, false), GROWTH_TICKS, ROUNDS)?;
-        let (plain, proved) = (&pair.plain, &pair.proved);
-        print!("  {count:>5}      {:>10.1} {:>7.1}", plain.best, plain.median);
-        print!("     {:>11.1} {:>7.1}", proved.best, proved.median);
-        println!("     {:>10.2} {:>7.2}", proved.best / plain.best, pair.ratio());
+        let t = ticked(&mixes::mix("growth", count, false), GROWTH_TICKS, ROUNDS)?;
+        print!("  {count:>5}");
+        for times in [&t.plain, &t.lent, &t.proved] {
+            print!(" {:>7.1} /{:>6.1}", times.best, times.median);
+        }
+        println!("  {:>8.2} {:>8.2}", t.proved.to(&t.plain)[1], t.proved.to(&t.lent)[1]);
     }
     Ok(())
 }

@@ -3,7 +3,8 @@
 use crate::plain::form::{
     Closed, Port, State, Table, DENIED, HIGHEST_SUPPLY, PLACES, SAMPLE_BYTES, STATES,
 };
-use crate::plain::{image, laps};
+use crate::plain::image;
+use crate::plain::laps::{self, Laps};
 use reference::random::Random;
 use reference::reading::BUDGETS;
 
@@ -33,6 +34,13 @@ pub struct Mix {
     pub blocks: Vec<u8>,
     pub size: usize,
     pub figures: Vec<u8>,
+}
+
+impl Mix {
+    pub fn laps(&self, ticks: u64) -> Laps<'_> {
+        let (blocks, figures) = (&self.blocks, &self.figures);
+        Laps { blocks, size: self.size, figures, ticks, restore: RESTORE }
+    }
 }
 
 fn port_in(r: &mut Random, state: State) -> Port {

@@ -1,5 +1,7 @@
 //! The proved functions, as tools/native compiled them. The only unsafe code of this program.
 
+use crate::plain::laps::Laps;
+
 extern "C" {
     fn laps_tick(
         image: *mut u8,
@@ -17,26 +19,19 @@ extern "C" {
 }
 
 /// See crates/laps: the table of the image ticks; its image is left, and the checksum of the answers given.
-pub fn tick(
-    image: &mut [u8],
-    blocks: &[u8],
-    size: usize,
-    figures: &[u8],
-    ticks: u64,
-    restore: u64,
-) -> u64 {
+pub fn tick(image: &mut [u8], laps: &Laps) -> u64 {
     // SAFETY: each pointer goes with the length of its own slice, and the one that is written through is lent alone.
     unsafe {
         laps_tick(
             image.as_mut_ptr(),
             image.len(),
-            blocks.as_ptr(),
-            blocks.len(),
-            size,
-            figures.as_ptr(),
-            figures.len(),
-            ticks,
-            restore,
+            laps.blocks.as_ptr(),
+            laps.blocks.len(),
+            laps.size,
+            laps.figures.as_ptr(),
+            laps.figures.len(),
+            laps.ticks,
+            laps.restore,
         )
     }
 }

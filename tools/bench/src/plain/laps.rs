@@ -5,7 +5,7 @@ use super::image;
 use super::tick::tick;
 use super::tlv::{self, Fields};
 
-fn with(sum: u64, n: u64) -> u64 {
+pub fn with(sum: u64, n: u64) -> u64 {
     sum.rotate_left(1).wrapping_add(n)
 }
 
@@ -37,27 +37,45 @@ fn number(bytes: &[u8], at: usize) -> u64 {
     }
 }
 
-pub fn run(
-    image: &mut [u8],
-    blocks: &[u8],
-    size: usize,
-    figures: &[u8],
-    ticks: u64,
-    restore: u64,
-) -> u64 {
+/// What is ticked on: blocks of `size` bytes and figures of two, each in turn and from the front again. The start table comes back
+/// after `restore` ticks, or never if that is 0.
+pub struct Laps<'a> {
+    pub blocks: &'a [u8],
+    pub size: usize,
+    pub figures: &'a [u8],
+    pub ticks: u64,
+    pub restore: u64,
+}
+
+impl Laps<'_> {
+    /// The checksum of all answers of a tick of any shape; the table is left as the last one has it.
+    #[inline(always)]
+    pub fn run<T: ?Sized>(
+        &self,
+        table: &mut T,
+        begin: impl Fn(&mut T),
+        tick: impl Fn(&mut T, &[u8], u64) -> Closed,
+    ) -> u64 {
+        let (mut sum, mut block, mut figure, mut left) = (0, 0, 0, self.ticks);
+        while left > 0 {
+            let lap = if self.restore == 0 { left } else { left.min(self.restore) };
+            begin(table);
+            for _ in 0..lap {
+                let samples = part(self.blocks, block, self.size);
+                sum = closed(sum, tick(table, samples, number(self.figures, figure)));
+                block = next(self.blocks, block, self.size);
+                figure = next(self.figures, figure, 2);
+            }
+            left -= lap;
+        }
+        sum
+    }
+}
+
+pub fn run(image: &mut [u8], laps: &Laps) -> u64 {
     let Some(start) = image::load(image) else { return 0 };
     let mut table = start.clone();
-    let (mut sum, mut block, mut figure, mut left) = (0, 0, 0, ticks);
-    while left > 0 {
-        let lap = if restore == 0 { left } else { left.min(restore) };
-        table = start.clone();
-        for _ in 0..lap {
-            sum = closed(sum, tick(&mut table, part(blocks, block, size), number(figures, figure)));
-            block = next(blocks, block, size);
-            figure = next(figures, figure, 2);
-        }
-        left -= lap;
-    }
+    let sum = laps.run(&mut table, |table| table.clone_from(&start), tick);
     image.copy_from_slice(&image::store(&table));
     sum
 }

@@ -4,6 +4,7 @@ pub mod form;
 pub mod image;
 pub mod laps;
 mod moves;
+pub mod reading;
 mod share;
 pub mod tick;
 pub mod tlv;

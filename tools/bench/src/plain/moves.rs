@@ -1,17 +1,17 @@
 //! The ports' moves, in place. Most ticks only move counters: those have an arm each, and everything else one function.
 
 use super::form::{
-    word, Port, State, ABSENT, BACKOFF, CLASS, CLASS_DONE, DETECTION, DETECTION_DONE, ERROR_DELAY,
+    Port, State, ABSENT, BACKOFF, CLASS, CLASS_DONE, DETECTION, DETECTION_DONE, ERROR_DELAY,
     INVALID, LIMITED, LIMITING, LOAD, NO_LOAD, OVER, OVERLOAD, OVERLOADED, POWER_ON, SAMPLE_BYTES,
     SETTLED, SHORT, VALID,
 };
+use super::reading::{class, signature, Sample, Signature, BUDGETS};
 
 const MOST: u16 = 2_000;
 const ENABLED: u16 = 1;
 const FORCED: u16 = 2;
 const ALTERNATIVE_A: u16 = 4;
 const FORCED_DEMAND: u16 = 154;
-const BUDGETS: [u16; 5] = [154, 40, 70, 154, 300];
 
 /// What the moves leave to be shared. A mask has a bit for each port.
 pub struct Moved {
@@ -21,8 +21,6 @@ pub struct Moved {
     /// The demands of all claims.
     pub claimed: u32,
 }
-
-type Sample = [u8; SAMPLE_BYTES];
 
 pub fn all(ports: &mut [Port], block: &[u8]) -> Moved {
     let mut moved = Moved { closed: 0, asking: 0, on_a: 0, claimed: 0 };
@@ -225,40 +223,6 @@ fn detecting(port: &mut Port, sample: &Sample, flags: u16) -> Claim {
     Claim::Nothing
 }
 
-enum Signature {
-    Valid,
-    Invalid,
-    Open,
-}
-
-fn signature(sample: &Sample) -> Signature {
-    let (v1, v2) = (i32::from(word(sample, 0)), i32::from(word(sample, 2)));
-    let dv = v2 - v1;
-    let di = i32::from(word(sample, 6)) - i32::from(word(sample, 4));
-    let usual = 2_800..=10_000;
-    if !usual.contains(&v1) || !usual.contains(&v2) || dv < 1_000 {
-        Signature::Invalid
-    } else if di <= 0 || dv >= 500 * di {
-        Signature::Open
-    } else if 19 * di <= dv && 2 * dv <= 53 * di {
-        Signature::Valid
-    } else {
-        Signature::Invalid
-    }
-}
-
-/// 5 is a failure.
-fn class_of(current: u16) -> u8 {
-    match current {
-        0..=5_000 => 0,
-        5_001..=13_000 => 1,
-        13_001..=21_000 => 2,
-        21_001..=31_000 => 3,
-        31_001..=45_000 => 4,
-        _ => 5,
-    }
-}
-
 fn classifying(port: &mut Port, sample: &Sample, flags: u16) -> Claim {
     if count(&mut port.lanes[POWER_ON]) >= 400 {
         return to_idle(port);
@@ -266,10 +230,7 @@ fn classifying(port: &mut Port, sample: &Sample, flags: u16) -> Claim {
     if flags & CLASS_DONE == 0 {
         return Claim::Nothing;
     }
-    let class = class_of(word(sample, 8));
-    if class == 5 || (class == 4 && class_of(word(sample, 10)) != 4) {
-        return to_idle(port);
-    }
+    let Some(class) = class(sample) else { return to_idle(port) };
     port.lanes[CLASS] = u16::from(class);
     port.demand = BUDGETS[usize::from(class)];
     Claim::Asks
