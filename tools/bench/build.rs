@@ -1,10 +1,12 @@
-//! Links the archive of the proved crate `laps`, which tools/native makes. `run` says where it lies.
+//! Links the archives of the proved crates `laps` and `ipaqsuni`, which tools/native makes. `run` says where they lie.
 
 fn main() {
-    let place = std::env::var("LAPS_DIR")
-        .expect("LAPS_DIR: the folder of liblaps.a; tools/bench/run sets it");
+    let place = std::env::var("ARCHIVES")
+        .expect("ARCHIVES: the folder of liblaps.a and libipaqsuni.a; tools/bench/run sets it");
     println!("cargo:rustc-link-search=native={place}");
-    println!("cargo:rustc-link-lib=static=laps");
-    println!("cargo:rerun-if-env-changed=LAPS_DIR");
-    println!("cargo:rerun-if-changed={place}/liblaps.a");
+    println!("cargo:rerun-if-env-changed=ARCHIVES");
+    for name in ["laps", "ipaqsuni"] {
+        println!("cargo:rustc-link-lib=static={name}");
+        println!("cargo:rerun-if-changed={place}/lib{name}.a");
+    }
 }

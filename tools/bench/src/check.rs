@@ -1,17 +1,18 @@
-//! That the two plain ticks, the proved one and the reference compute the same; no time is taken.
+//! That the two plain ticks, the proved one, the C function and the reference compute the same; no time is taken.
 
 use crate::lent::{self, cells};
 use crate::plain::form::{Closed, HIGHEST_SUPPLY, PLACES};
 use crate::plain::image;
 use crate::plain::laps::{self, Laps};
 use crate::strange::Strange;
-use crate::{frames, mixes, proved, ticked};
+use crate::{calls, door, frames, mixes, proved, through_door, ticked};
 use reference::lines::{parsed, Console, Line};
 use reference::random::Random;
 use reference::scripts::{self, Kind};
 use std::path::Path;
 
 const MIX_TICKS: u64 = 20_000;
+const DOOR_TICKS: u64 = 5_000;
 const RANDOM_TABLES: u64 = 20_000;
 const SCRIPT_LINES: u64 = 50_000;
 
@@ -34,6 +35,14 @@ fn by_proof(before: &[u8], block: &[u8], figure: u64) -> Option<Outcome> {
     Some((sum, after))
 }
 
+/// None for a figure that C's number does not hold.
+fn by_door(before: &[u8], block: &[u8], figure: u64) -> Option<Outcome> {
+    let figure = u32::try_from(figure).ok()?;
+    let mut after = before.to_vec();
+    let answer = door::tick(&mut after, block, figure);
+    Some((laps::closed(0, answer), after))
+}
+
 fn by_reference(console: &mut Console, block: &[u8], figure: u64) -> Outcome {
     let answer = match console.table.tick(figure, block) {
         Ok(t) => Closed::Ports(t.mask_a, t.mask_b, t.closed),
@@ -52,6 +61,7 @@ fn compared(console: &mut Console, block: &[u8], figure: u64) -> Result<u64, Str
         ("the plain tick", by_plain(&before, block, figure)? != wanted),
         ("the plain tick of the lent shape", lent != (wanted.0, cells::of_image(&wanted.1))),
         ("the proved tick", by_proof(&before, block, figure).is_some_and(|proof| proof != wanted)),
+        ("ipaqsuni_tick", by_door(&before, block, figure).is_some_and(|door| door != wanted)),
     ];
     match differing.iter().find(|(_, differs)| *differs) {
         None => Ok(wanted.0),
@@ -240,11 +250,16 @@ fn looks(root: &Path) -> Result<(), String> {
 }
 
 pub fn all(root: &Path) -> Result<(), String> {
-    println!("check: the plain programs, the proved one and the reference");
+    println!("check: the plain programs, the proved one, its C interface and the reference");
     for short in [false, true] {
         let mix = mixes::mix(if short { "short of supply" } else { "every claim fits" }, 48, short);
         ticked(&mix, MIX_TICKS, 1)?;
-        println!("  {}: {MIX_TICKS} ticks, no difference", mix.name);
+        through_door(&mix, DOOR_TICKS, 1)?;
+        println!("  {}: {MIX_TICKS} ticks, and {DOOR_TICKS} through C, no difference", mix.name);
+        let calls = calls::timed(&mix, DOOR_TICKS, 1)?;
+        let names: Vec<&str> = calls.iter().map(|(name, _)| *name).collect();
+        let names = names.join(", ");
+        println!("  {}: {names} through C: {DOOR_TICKS} calls of each, no difference", mix.name);
     }
     random_tables()?;
     strange_cells()?;

@@ -1,4 +1,4 @@
-//! The proved functions, as tools/native compiled them. The only unsafe code of this program.
+//! The proved functions in the loops of crates/laps, as tools/native compiled them.
 
 use crate::plain::laps::Laps;
 
