@@ -1,12 +1,17 @@
-//! Links the archives of the proved crates `laps` and `ipaqsuni`, which tools/native makes. `run` says where they lie.
+//! Links the archives of the proved crates `laps` and `ipaqsuni`. `run` names their files, with a colon between them.
+
+use std::path::Path;
 
 fn main() {
-    let place = std::env::var("ARCHIVES")
-        .expect("ARCHIVES: the folder of liblaps.a and libipaqsuni.a; tools/bench/run sets it");
-    println!("cargo:rustc-link-search=native={place}");
+    let archives = std::env::var("ARCHIVES")
+        .expect("ARCHIVES: liblaps.a:libipaqsuni.a; tools/bench/run sets it");
     println!("cargo:rerun-if-env-changed=ARCHIVES");
-    for name in ["laps", "ipaqsuni"] {
-        println!("cargo:rustc-link-lib=static={name}");
-        println!("cargo:rerun-if-changed={place}/lib{name}.a");
+    for archive in archives.split(':') {
+        let file = Path::new(archive);
+        let place = file.parent().expect("an archive in a folder").display();
+        let name = file.file_stem().and_then(|stem| stem.to_str()).unwrap_or("");
+        println!("cargo:rustc-link-search=native={place}");
+        println!("cargo:rustc-link-lib=static={}", name.trim_start_matches("lib"));
+        println!("cargo:rerun-if-changed={archive}");
     }
 }
