@@ -9,7 +9,7 @@ ghost use Prim.Native.Nat.{_*_, _/_, _%_, _<_, _≤_};
 ghost use lib.ListN.{length};
 ghost use Rattle.lists.specs.Bits.{one};
 ghost use Rattle.port.specs.States.{codeOf};
-ghost use Rattle.image.specs.Image.{latchByte, portBytes, headBytes, byteAt, imageOf, stores, roomAfter};
+ghost use Rattle.image.specs.Image.{latchByte, portBytes, headBytes, imageOf, stores, roomAfter};
 
 fn code_of(state: State) -> u8
     ensures { λ r. ⌜ r ≡ codeOf state ⌝ }
@@ -104,29 +104,27 @@ fn head_bytes(table: Table) -> [u8; 6]
     ]
 }
 
-fn byte_at(table: Table, k: usize) -> u8
-    requires { ⌜ k < 1014 ⌝ }
-    ensures { λ r. ⌜ r ≡ byteAt table k ⌝ }
-{
-    if k < 6 {
-        let head = head_bytes(table);
-        return head[k];
-    }
-    let p = (k - 6) / 21;
-    let q = (k - 6) % 21;
-    let port = table.ports[p];
-    let bytes = port_bytes(port);
-    bytes[q]
-}
-
+// A port's bytes are worked out once, and then written.
 fn put(table: Table, room: &mut [u8])
     requires { ⌜ length (now room) ≡ 1014 ⌝ }
     ensures { λ _. ⌜ now (room .exit) ≡ imageOf table ⌝ }
 {
+    let head = head_bytes(table);
     let mut k = 0;
-    while k < 1_014 {
-        room[k] = byte_at(table, k);
+    while k < 6 {
+        room[k] = head[k];
         k += 1;
+    }
+    let mut p = 0;
+    while p < 48 {
+        let port = table.ports[p];
+        let bytes = port_bytes(port);
+        let mut q = 0;
+        while q < 21 {
+            room[6 + 21 * p + q] = bytes[q];
+            q += 1;
+        }
+        p += 1;
     }
 }
 

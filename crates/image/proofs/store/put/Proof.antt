@@ -1,41 +1,92 @@
--- `put` leaves `imageOf`: the places below k are filled.
+-- `put` leaves `imageOf`: the six bytes of the head, and then the 21 of each port, place by place.
 -- Assumes nothing.
-use mathlib.Core.Path.{_≡_}
-use Prim.Native.Nat.{_≤_, _-_}
+use mathlib.Core.Path.{_∙_, ap}
+use mathlib.Core.List.{List}
+use Prim.Native.Nat.{ℕ, _+_, _*_, _≤_, _-_}
 use native.Mathlib.Nat.{le-antisymm}
 use native.Mathlib.Omega.{arith}
+use lib.ListN.{getD}
 use borrow.Author.Needs.{needs}
-use denote.Ref.{now}
-use Rattle.lists.specs.Places.{Filled, filled-none, filled-more, filled-all}
-use Rattle.image.specs.Image.{byteAt, imageOf}
+use Rattle.table.specs.Form.{portAt}
+use Rattle.image.proofs.Written.{Written, written-none, written-more, written-at, written-all, head-byte, port-byte}
 use Rattle.image.proofs.store.put.Statement.{statement}
 use Rattle.image.proofs.store.put.Tie as tie
 
 abbrev Inv-loop : tie.InvT-loop
-Inv-loop table room₀ k₀ room k = (k ≤ 1014) × Filled 0 (byteAt table) room₀ k room
+Inv-loop room₀ table head k₀ room k = (k ≤ 6) × Written table k room
 
 abbrev μ-loop : tie.MeasureT-loop
-μ-loop table room₀ k₀ room k = 1014 - k
+μ-loop room₀ table head k₀ room k = 6 - k
+
+abbrev Inv-loop3 : tie.InvT-loop3
+Inv-loop3 room₀ table k p bytes q₀ room q = (q ≤ 21) × Written table (6 + 21 * p + q) room
+
+abbrev μ-loop3 : tie.MeasureT-loop3
+μ-loop3 room₀ table k p bytes q₀ room q = 21 - q
+
+abbrev Inv-loop2 : tie.InvT-loop2
+Inv-loop2 room₀ table k p₀ room p = (p ≤ 48) × Written table (6 + 21 * p) room
+
+abbrev μ-loop2 : tie.MeasureT-loop2
+μ-loop2 room₀ table k p₀ room p = 48 - p
 
 pub put-spec : {M : Type 1} → statement M
-unfolding imageOf
+unfolding portAt
 put-spec =
     tie.close
     (tie.spec
     Inv-loop
     μ-loop
-    (λ c. (search needs, filled-none _ _ _))
+    Inv-loop3
+    μ-loop3
+    Inv-loop2
+    μ-loop2
     (λ c κs. search needs)
-    (λ c. omega (arith, c .before .before .loop .inv .1 .long))
+    (λ c. (search needs, written-none _ _ (search needs)))
     (λ c. omega arith)
-    (λ c. omega arith)
-    (λ c.
-    let l = c .before .before .loop in
-    let a = c .before .before .before .before .args in
-    (omega arith, filled-more 0 (byteAt (a .table)) (now (a .room)) (l .k) (l .room) (c .byte-at .result) (l .inv .1) (omega arith) (c .byte-at .ensures)))
     (λ c. omega (arith, c .before .loop .inv .1 .long))
+    (λ c. omega arith)
+    (λ c. omega arith)
     (λ c.
     let l = c .before .loop in
-    let a = c .before .before .before .args in
-    let e : l .k ≡ 1014 = le-antisymm (l .inv .0) (c .loop-test .left) in
-    filled-all 0 (byteAt (a .table)) (now (a .room)) 1014 (l .room) (search needs) (rw e at (l .inv .1))))
+    let t = c .before .before .before .before .args .t1 in
+    (omega arith, written-more t (l .room) (l .k) _ (l .inv .1) (omega arith) (ap (λ (b : List ℕ). getD b (l .k) 0) (c .before .before .head-bytes .ensures) ∙ head-byte t (l .k) (c .loop-test .taken))))
+    (λ c.
+    let l = c .before .loop in
+    let t = c .before .before .before .before .args .t1 in
+    (search needs, written-at t (l .room) (l .k) 6 (le-antisymm (l .inv .0) (c .loop-test .left)) (l .inv .1)))
+    (λ c. omega arith)
+    (λ c. omega arith)
+    (λ c κs. search needs)
+    (λ c.
+    let l = c .before .before .before .loop2 in
+    (search needs, written-at _ (l .room) (6 + 21 * l .p) (6 + 21 * l .p + 0) (omega arith) (l .inv .1)))
+    (λ c. omega arith)
+    (λ c. omega arith)
+    (λ c. omega arith)
+    (λ c. omega arith)
+    (λ c. omega (arith, c .before .loop3 .inv .1 .long))
+    (λ c. omega arith)
+    (λ c. omega arith)
+    (λ c.
+    let l = c .before .loop3 in
+    let o = c .before .before .before .before .before .loop2 in
+    let t = c .before .before .before .before .before .before .before .before .before .before .args .t1 in
+    let i = 6 + 21 * o .p + l .q in (
+      omega arith,
+      written-at t _ (i + 1) (6 + 21 * o .p + (l .q + 1)) (omega arith)
+          (written-more t (l .room) i _ (l .inv .1) (omega (arith, c .before .before .before .before .loop2-test .taken))
+          (ap (λ (b : List ℕ). getD b (l .q) 0) (c .before .before .port-bytes .ensures) ∙ port-byte t (o .p) (l .q) (c .loop3-test .taken))),
+    ))
+    (λ c. omega arith)
+    (λ c. omega arith)
+    (λ c.
+    let l = c .before .loop3 in
+    let o = c .before .before .before .before .before .loop2 in (
+      omega (arith, c .before .before .before .before .loop2-test .taken),
+      written-at _ (l .room) (6 + 21 * o .p + l .q) (6 + 21 * (o .p + 1)) (omega (arith, le-antisymm (l .inv .0) (c .loop3-test .left))) (l .inv .1),
+    ))
+    (λ c. omega (arith, c .before .loop2 .inv .1 .long))
+    (λ c.
+    let l = c .before .loop2 in
+    written-all _ (l .room) (written-at _ (l .room) (6 + 21 * l .p) 1014 (omega (arith, le-antisymm (l .inv .0) (c .loop2-test .left))) (l .inv .1))))
