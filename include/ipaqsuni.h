@@ -22,7 +22,7 @@
  *   - Between two calls the table is in memory that the caller trusts. A flipped bit may make another table that is
  *     well-made: then the core moves that table by the rules, and 13 is not given.
  *   - The stack: no theorem bounds it. Measured on x86-64 (tools/stack), with everything that is called but memcpy: a tick
- *     needs 11 KB, request, status and control 10 KB, a cold start 4 KB, the three functions on TLVs 200 bytes.
+ *     needs 11 KB, request, status and control 10 KB, a cold start 3 KB, the three functions on TLVs 200 bytes.
  */
 #ifndef IPAQSUNI_H
 #define IPAQSUNI_H
