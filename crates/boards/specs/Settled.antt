@@ -13,11 +13,10 @@ use Rattle.power.specs.declared.Power.{Power}
 use Rattle.words.specs.Control.{priorityOf}
 use Rattle.words.specs.Laws.{join-none}
 use Rattle.words.specs.Status.{noLatches, join}
-use Rattle.words.specs.declared.control.Priority.{Priority}
-use Rattle.words.specs.declared.control.Priority.the-variants.{Unknown, Critical, High, Low}
 use Rattle.port.specs.Entry.{enter}
 use Rattle.port.specs.Form.{quietly, latchDenied}
 use Rattle.port.specs.States.{closed, inTest}
+use Rattle.settling.specs.Claim.{urgency-small}
 use Rattle.settling.specs.Settle.{urgency, rank, granted, shed, settled}
 use Rattle.share.specs.Share.{noClaim}
 use Rattle.port.specs.declared.form.Moved.{Moved}
@@ -53,12 +52,6 @@ draws-at-most p = choice (λ (n : ℕ). n ≤ p .demand .0) (closed (p .state)) 
 pub draws-open : (p : Port) → closed (p .state) ≡ false → draws p ≡ 0
 unfolding draws
 draws-open p e = simp e
-
-urgency-small : (x : Priority) → urgency x ≤ 2
-urgency-small Unknown = omega arith
-urgency-small Critical = omega arith
-urgency-small High = omega arith
-urgency-small Low = omega arith
 
 -- a port without a claim is open, unless it is closed though it was open before the tick
 pub no-claim-open : (before : State) (m : Moved) → leb noClaim (rank before m) ≡ true → (closed before ≡ false → closed (m .port .state) ≡ false) → closed (m .port .state) ≡ false

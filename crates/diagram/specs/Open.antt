@@ -1,7 +1,7 @@
 -- A move closes no port by itself: it may ask, and the sharing of the supply decides.
 -- Assumes nothing.
 use mathlib.Core.Path.{_≡_, refl}
-use mathlib.Core.Bool.{Bool, true, false, _&&_, true≢false}
+use mathlib.Core.Bool.{false, true≢false}
 use Rattle.lists.specs.Tests.{not-both}
 use Rattle.power.specs.declared.Power.{Power}
 use Rattle.port.specs.Entry.{enter}
@@ -33,11 +33,3 @@ open-stays claim p r e =
       settles = λ a. absurd (true≢false (rw a at e));
       absent = λ a. refl;
     })
-
--- so that a port which is closed after its move was closed before it
-pub held : (claim : Power) (p : Port) (r : Reading) → closed (step claim p r .port .state) ≡ (closed (p .state) && closed (step claim p r .port .state))
-held claim p r = go (closed (p .state)) refl
-  where
-    go : (b : Bool) → closed (p .state) ≡ b → closed (step claim p r .port .state) ≡ (b && closed (step claim p r .port .state))
-    go true e = refl
-    go false e = open-stays claim p r e

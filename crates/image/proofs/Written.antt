@@ -1,30 +1,15 @@
 -- A room of which the first places have been written: what holds before place i, that it holds after one byte more, and what it comes
--- to at the end. Assumes nothing.
-use mathlib.Core.Path.{_≡_, _∙_, subst}
+-- to at the end. It says nothing of what the room held before, since three loops write it one after the other.
+-- Assumes nothing.
+use mathlib.Core.Path.{_≡_, refl, _∙_, subst}
 use mathlib.Core.List.{List}
-use mathlib.Core.Logic.{⊎-elim}
-use Prim.Native.Nat.{ℕ, _+_, _-_, _*_, _/_, _%_, _≤_, _<_}
+use Prim.Native.Nat.{ℕ, _+_, _<_}
 use native.Mathlib.Nat.{not-suc-le-zero}
 use native.Mathlib.Omega.{arith}
-use lib.ListN.{length, getD, set, length-set}
-use lib.Seq.{getD-set-same, getD-set-other}
-use borrow.Author.Tests.{lt-ltb, le-ltb}
-use Rattle.lists.specs.Places.{side, tabulated}
+use lib.ListN.{length, getD, set}
+use Rattle.lists.specs.Places.{filled-more, tabulated}
 use Rattle.table.specs.declared.form.Table.{Table}
-use Rattle.table.specs.Form.{portAt}
-use Rattle.image.specs.Image.{portBytes, headBytes, byteAt, imageOf}
-
--- the bytes of the head, and those of a port
-pub head-byte : (t : Table) (k : ℕ) → k < 6 → getD (headBytes t) k 0 ≡ byteAt t k
-unfolding byteAt
-head-byte t k h = simp (lt-ltb k 6 h)
-
-pub port-byte : (t : Table) (p q : ℕ) → q < 21 → getD (portBytes (portAt t p)) q 0 ≡ byteAt t (6 + 21 * p + q)
-unfolding byteAt
-port-byte t p q h =
-    let d : (6 + 21 * p + q - 6) / 21 ≡ p = omega arith in
-    let m : (6 + 21 * p + q - 6) % 21 ≡ q = omega arith in
-    simp (le-ltb (6 + 21 * p + q) 6 (omega arith), d, m)
+use Rattle.image.specs.Image.{byteAt, imageOf}
 
 pub record Written (t : Table) (i : ℕ) (room : List ℕ) : Type 0 where
   pub long : length room ≡ 1014
@@ -36,16 +21,8 @@ module _ (t : Table) (room : List ℕ) where
 
   pub written-more : (i : ℕ) (v : ℕ) → Written t i room → i < 1014 → v ≡ byteAt t i → Written t (i + 1) (set room i v)
   written-more i v W h e =
-      record {
-        long = length-set room i v ∙ W .long;
-        done = λ j l.
-            ⊎-elim
-            (λ (m : j < i). getD-set-other room i j v 0 (λ q. omega arith) ∙ W .done j m)
-            (λ (m : i ≤ j).
-            let q : i ≡ j = omega arith in
-            subst (λ (x : ℕ). getD (set room i v) x 0 ≡ byteAt t x) q (getD-set-same room i v 0 (omega (arith, W .long)) ∙ e))
-            (side j i);
-      }
+      let F = filled-more 0 (byteAt t) room i room v (record { long = refl; done = W .done; left = λ j l. refl }) (omega (arith, W .long)) e in
+      record { long = F .long ∙ W .long; done = F .done }
 
   -- the same place, counted otherwise
   pub written-at : (i j : ℕ) → i ≡ j → Written t i room → Written t j room

@@ -90,17 +90,25 @@ latches-again n h =
     ∙ eqb-true _ _ (entry (λ m. eqb (latchByte (latchesOf m)) m) 0 (tabulate 64 (λ k. k)) refl n h)
     ∙ getD-tabulate 64 (λ k. k) 0 n h
 
--- the bytes of a port in the image
+-- what stands at a place of the image: a byte of the head, or of a port
+pub head-byte : (t : Table) (k : ℕ) → k < 6 → byteAt t k ≡ getD (headBytes t) k 0
+unfolding byteAt
+head-byte t k h = simp (lt-ltb k 6 h)
+
+pub port-byte : (t : Table) (p q : ℕ) → q < 21 → byteAt t (6 + 21 * p + q) ≡ getD (portBytes (portAt t p)) q 0
+unfolding byteAt
+port-byte t p q h =
+    let d : (6 + 21 * p + q - 6) / 21 ≡ p = omega arith in
+    let m : (6 + 21 * p + q - 6) % 21 ≡ q = omega arith in
+    simp (le-ltb (6 + 21 * p + q) 6 (omega arith), d, m)
+
 image-at : (t : Table) (p q i : ℕ) → p < 48 → q < 21 → i ≡ 6 + 21 * p + q → getD (imageOf t) i 0 ≡ getD (portBytes (portAt t p)) q 0
-unfolding imageOf byteAt
-image-at t p q i hp hq e =
-    let d : (i - 6) / 21 ≡ p = omega arith in
-    let m : (i - 6) % 21 ≡ q = omega arith in
-    getD-tabulate 1014 (byteAt t) 0 i (omega arith) ∙ simp (le-ltb i 6 (omega arith), d, m)
+unfolding imageOf
+image-at t p q i hp hq e = getD-tabulate 1014 (byteAt t) 0 i (omega arith) ∙ ap (byteAt t) e ∙ port-byte t p q hq
 
 image-head : (t : Table) (i : ℕ) → i < 6 → getD (imageOf t) i 0 ≡ getD (headBytes t) i 0
-unfolding imageOf byteAt
-image-head t i h = getD-tabulate 1014 (byteAt t) 0 i (omega arith) ∙ simp (lt-ltb i 6 h)
+unfolding imageOf
+image-head t i h = getD-tabulate 1014 (byteAt t) 0 i (omega arith) ∙ head-byte t i h
 
 pub image-long : (t : Table) → length (imageOf t) ≡ 1014
 unfolding imageOf

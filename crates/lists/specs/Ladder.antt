@@ -1,7 +1,7 @@
 -- A call's refusals in order, each a number with its condition: the first whose condition holds is given, and otherwise the value.
 -- Assumes nothing.
 use Prim.Native.Nat.{ℕ}
-use mathlib.Core.Path.{_≡_, refl, _∙_, ap}
+use mathlib.Core.Path.{_≡_, refl}
 use mathlib.Core.Bool.{Bool, true, false, cond}
 use mathlib.Core.List.{List, [], _∷_}
 use Rattle.lists.specs.Tests.{choice, choice-on}
@@ -44,11 +44,6 @@ ladder-part part refuse value (r ∷ rs) = go (r .1) (ladder-part part refuse va
         → part (cond b (refuse (r .0)) (ladder rs refuse value)) ≡ cond b (part (refuse (r .0))) (ladder rs (λ k. part (refuse k)) (part value))
     go true e = refl
     go false e = e
-
--- the answer where no condition holds
-pub ladder-clear : {X : Type 0} (refuse : ℕ → X) (value : X) (rs : List (ℕ × Bool)) → Clear rs → ladder rs refuse value ≡ value
-ladder-clear refuse value [] c = refl
-ladder-clear refuse value (r ∷ rs) c = ap (λ (b : Bool). cond b (refuse (r .0)) (ladder rs refuse value)) (c .0) ∙ ladder-clear refuse value rs (c .1)
 
 -- what no refusal is came by no refusal: no condition holds, and it is the value
 pub ladder-value : {X : Type 0} (refuse : ℕ → X) (value x : X) → ((k : ℕ) → refuse k ≡ x → ⊥) → (rs : List (ℕ × Bool)) → ladder rs refuse value ≡ x → Clear rs × (value ≡ x)

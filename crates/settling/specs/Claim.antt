@@ -41,7 +41,7 @@ rank-in before m opens = go (closed before) refl
     go true e = refl
     go false e = simp (opens e)
 
-urgency-small : (u : Priority) → urgency u < 3
+pub urgency-small : (u : Priority) → urgency u < 3
 urgency-small Critical = omega arith
 urgency-small High = omega arith
 urgency-small Low = omega arith

@@ -6,7 +6,7 @@ use mathlib.Core.Bool.{Bool, true, false, not, _&&_}
 use native.Mathlib.Omega.{arith}
 use lib.Dec.{leb}
 use borrow.Author.Tests.{le-leb, leb-true, not-true}
-use Rattle.lists.specs.Every.{every, every-at, every-of}
+use Rattle.lists.specs.Every.{every, every-of}
 use Rattle.lists.specs.Table.{some}
 use Rattle.lists.specs.Tests.{and-left, and-right, choice}
 use Rattle.power.specs.Power.{atMost, highestSupply}
@@ -23,6 +23,7 @@ use Rattle.port.specs.declared.form.State.the-variants.{Disabled, Idle, Detecti
 use Rattle.table.specs.declared.form.Table.{Table}
 use Rattle.table.specs.Form.{portAt}
 use Rattle.table.specs.Head.{wellCounts, well-port-is, well-made-is}
+use Rattle.table.specs.Laws.{well-at}
 use Rattle.table.specs.WellMade.{wellPort, wellMade}
 
 pub record WellCounts (c : Counts) : Type 0 where
@@ -162,7 +163,7 @@ table-of t well =
       some-ports = and-left (leb 1 (t .count)) g1 e;
       few-ports = and-left (leb (t .count) 48) g2 e1;
       supply = and-left (atMost (t .supply) highestSupply) g3 e2;
-      ports = λ p l. well-of (portAt t p) (every-at (t .count) (λ q. wellPort (portAt t q)) (and-right (atMost (t .supply) highestSupply) g3 e2) p l);
+      ports = λ p l. well-of (portAt t p) (well-at t well p l);
     }
 
 pub table-test : (t : Table) → WellTable t → wellMade t ≡ true

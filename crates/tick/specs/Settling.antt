@@ -29,6 +29,7 @@ use Rattle.table.specs.Form.{noPort, portAt}
 use Rattle.port.specs.States.{closed}
 use Rattle.diagram.specs.Open.{open-stays}
 use Rattle.tick.specs.Passes.{movedTable, askedAll, ranksOf, demandsOf, settledAll, sharedOut}
+use Rattle.boards.specs.Laws.{rank-here}
 use Rattle.boards.specs.Sharing.{rankAt, claimAt, keptAt, settledAt, portAfter, tableAfter}
 use Rattle.tick.specs.Tick.{movedAt}
 
@@ -66,18 +67,17 @@ module _ (t : Table) (block : List ℕ) where
 
   -- where no port asks, what is claimed is what the closed ports draw
   module _ (few : t .count ≤ 48) (quiet : every (t .count) (λ q. not (movedAt t block q .asks)) ≡ true) where
-    rank-here : (p : ℕ) → p < t .count → rankAt t (movedAt t block) p ≡ rankIn (movedAt t block p .port .state) (movedAt t block p .port .control) false
-    unfolding rankAt movedAt
-    rank-here p l =
-        simp (lt-ltb p (t .count) l)
-        (sym (rank-in (portAt t p .state) (movedAt t block p) (opens p))
-        ∙ ap (rankIn (movedAt t block p .port .state) (movedAt t block p .port .control)) (not-true (movedAt t block p .asks) (every-at (t .count) (λ q. not (movedAt t block q .asks)) quiet p l)))
+    rank-quiet : (p : ℕ) → p < t .count → rankAt t (movedAt t block) p ≡ rankIn (movedAt t block p .port .state) (movedAt t block p .port .control) false
+    rank-quiet p l =
+        rank-here t (movedAt t block) p l
+        ∙ sym (rank-in (portAt t p .state) (movedAt t block p) (opens p))
+        ∙ ap (rankIn (movedAt t block p .port .state) (movedAt t block p .port .control)) (not-true (movedAt t block p .asks) (every-at (t .count) (λ q. not (movedAt t block q .asks)) quiet p l))
 
     claims-here : (p : ℕ) → p < t .count → cond (claims (rankAt t (movedAt t block)) p) (claimAt t (movedAt t block) p .0) 0 ≡ draws (movedAt t block p .port)
     unfolding claims claimAt draws
     claims-here p l =
         let m = movedAt t block p in
-        ap₂ (λ (r : ℕ) (b : Bool). cond (ltb r 6) (cond b (m .port .demand) zeroPower .0) 0) (rank-here p l) (lt-ltb p (t .count) l)
+        ap₂ (λ (r : ℕ) (b : Bool). cond (ltb r 6) (cond b (m .port .demand) zeroPower .0) 0) (rank-quiet p l) (lt-ltb p (t .count) l)
         ∙ ap (λ (b : Bool). cond b (m .port .demand .0) 0) (claims-closed (m .port .state) (m .port .control))
 
     pub drawn-is : claimedSum 48 (rankAt t (movedAt t block)) (λ q. claimAt t (movedAt t block) q .0) ≡ total (t .count) (λ p. draws (movedAt t block p .port))
@@ -103,13 +103,9 @@ module _ (t : Table) (block : List ℕ) where
       unfolding keptAt
       kept-is = getD-tabulate 48 _ false p l ∙ claims-of (rankAt t (movedAt t block)) (claimAt t (movedAt t block)) (supply .0) p l
 
-      rank-below : p < t .count → rankAt t (movedAt t block) p ≡ rank (portAt t p .state) (movedAt t block p)
-      unfolding rankAt
-      rank-below h = simp (lt-ltb p (t .count) h)
-
       -- a place below the count settles as the definition says
       below : p < t .count → settledAs (rankAt t (movedAt t block) p) (keptAt t (movedAt t block) supply p) (movedAt t block p .port) ≡ settled (rankAt t (movedAt t block) p) (keptAt t (movedAt t block) supply p) (movedAt t block p)
-      below h = rw (rank-below h) (settled-as (portAt t p .state) (movedAt t block p) (keptAt t (movedAt t block) supply p))
+      below h = rw (rank-here t (movedAt t block) p h) (settled-as (portAt t p .state) (movedAt t block p) (keptAt t (movedAt t block) supply p))
 
       place-is : cond (ltb p (t .count)) (settledAs (getD (tabulate 48 (rankAt t (movedAt t block))) p 0) (getD keptAll p false) (portAt (movedTable t block) p) .port) (portAt (movedTable t block) p) ≡ portAfter t (movedAt t block) supply p
       unfolding portAfter settledAt

@@ -40,34 +40,23 @@ impl Shown {
             self.is("  closed", t.closed.into(), wanted.closed.into());
         }
     }
+}
 
-    /// A tick of one port, on alternative A.
-    fn tick(
-        &mut self,
-        what: &str,
-        table: &mut [u8],
-        supply: u32,
-        sample: [u8; SAMPLE],
-        closed: u32,
-    ) {
-        let wanted = Ticked { mask_a: closed.into(), mask_b: 0, closed };
-        self.ticked(what, core::tick(table, &sample, supply), wanted);
-    }
+/// One port is closed or none: port 0 on alternative A.
+fn on_a(closed: u32) -> Ticked {
+    Ticked { mask_a: closed.into(), mask_b: 0, closed }
+}
 
-    /// A tick of three ports, the last of which has the sample; it is on alternative B.
-    fn tick_last(
-        &mut self,
-        what: &str,
-        table: &mut [u8],
-        supply: u32,
-        sample: [u8; SAMPLE],
-        closed: u32,
-    ) {
-        let mut samples = [0; 3 * SAMPLE];
-        samples[2 * SAMPLE..].copy_from_slice(&sample);
-        let wanted = Ticked { mask_a: 0, mask_b: u64::from(closed) << 2, closed };
-        self.ticked(what, core::tick(table, &samples, supply), wanted);
-    }
+/// Port 2, on alternative B.
+fn on_b(closed: u32) -> Ticked {
+    Ticked { mask_a: 0, mask_b: u64::from(closed) << 2, closed }
+}
+
+/// The block of three ports, the last of which has the sample.
+fn last(sample: [u8; SAMPLE]) -> [u8; 3 * SAMPLE] {
+    let mut samples = [0; 3 * SAMPLE];
+    samples[2 * SAMPLE..].copy_from_slice(&sample);
+    samples
 }
 
 /// V1 4,000 mV, V2 5,900 mV, I1 0, I2 100 uA, detection done: 1,900/100 is valid.
@@ -82,13 +71,21 @@ fn shed(shown: &mut Shown, table: &mut [u8]) {
     shown.answers("cold start of 1 port", core::cold_start(table, 1), header::OK);
     let control = core::write_control(table, 0, 0x0005);
     shown.answers("control: enabled, alternative A", control, header::OK);
-    shown.tick("DISABLED goes to IDLE", table, 154, still, 0);
-    shown.tick("IDLE goes to DETECTING", table, 154, still, 0);
-    shown.tick("a valid signature goes to CLASSIFYING", table, 154, DETECTED, 0);
-    shown.tick("class 1 goes to POWER_UP: the port is closed", table, 154, classified, 1);
-    shown.tick("settled goes to POWER_ON", table, 154, settled, 1);
+    shown.ticked("DISABLED goes to IDLE", core::tick(table, &still, 154), on_a(0));
+    shown.ticked("IDLE goes to DETECTING", core::tick(table, &still, 154), on_a(0));
+    shown.ticked(
+        "a valid signature goes to CLASSIFYING",
+        core::tick(table, &DETECTED, 154),
+        on_a(0),
+    );
+    shown.ticked(
+        "class 1 goes to POWER_UP: the port is closed",
+        core::tick(table, &classified, 154),
+        on_a(1),
+    );
+    shown.ticked("settled goes to POWER_ON", core::tick(table, &settled, 154), on_a(1));
     shown.answers("request of 39: 7.0 W", core::request(table, 0, 39), header::OVER_CLASS);
-    shown.tick("a supply of 3.9 W sheds 4.0 W", table, 39, settled, 0);
+    shown.ticked("a supply of 3.9 W sheds 4.0 W", core::tick(table, &settled, 39), on_a(0));
     // Latches 12 denied and 11 valid signature, class 1, condition 1, bit 0.
     if let Some(word) = shown.answers("status", core::read_status(table, 0), header::OK) {
         shown.is("  word", word.into(), 0x1813);
@@ -150,22 +147,22 @@ fn requests(shown: &mut Shown, table: &mut [u8]) {
     shown.answers("cold start of 3 ports", core::cold_start(table, 3), header::OK);
     let control = core::write_control(table, 2, 0x0009);
     shown.answers("control of port 2: enabled, alternative B", control, header::OK);
-    shown.tick_last("port 2 goes to IDLE", table, 300, still, 0);
-    shown.tick_last("port 2 goes to DETECTING", table, 300, still, 0);
-    shown.tick_last("port 2 goes to CLASSIFYING", table, 300, DETECTED, 0);
-    shown.tick_last("class 4 goes to POWER_UP", table, 300, classified, 1);
+    shown.ticked("port 2 goes to IDLE", core::tick(table, &last(still), 300), on_b(0));
+    shown.ticked("port 2 goes to DETECTING", core::tick(table, &last(still), 300), on_b(0));
+    shown.ticked("port 2 goes to CLASSIFYING", core::tick(table, &last(DETECTED), 300), on_b(0));
+    shown.ticked("class 4 goes to POWER_UP", core::tick(table, &last(classified), 300), on_b(1));
     shown.answers("request in POWER_UP", core::request(table, 2, 38), header::WRONG_STATE);
-    shown.tick_last("settled goes to POWER_ON", table, 300, settled, 1);
+    shown.ticked("settled goes to POWER_ON", core::tick(table, &last(settled), 300), on_b(1));
     shown.answers("request of 38: 4.0 W", core::request(table, 2, 38), header::OK);
-    shown.tick_last("a supply of 4.0 W keeps it", table, 40, settled, 1);
-    shown.tick_last("a supply of 29.9 W keeps it", table, 299, settled, 1);
+    shown.ticked("a supply of 4.0 W keeps it", core::tick(table, &last(settled), 40), on_b(1));
+    shown.ticked("a supply of 29.9 W keeps it", core::tick(table, &last(settled), 299), on_b(1));
     shown.answers("request of 130: 30.0 W", core::request(table, 2, 130), header::OVER_SUPPLY);
     shown.answers("request of 129: 15.4 W", core::request(table, 2, 129), header::OK);
     // Latch 11 valid signature, class 4, condition 2, bit 0.
     if let Some(word) = shown.answers("status of port 2", core::read_status(table, 2), header::OK) {
         shown.is("  word", word.into(), 0x0845);
     }
-    shown.tick_last("a supply of 15.3 W sheds it", table, 153, settled, 0);
+    shown.ticked("a supply of 15.3 W sheds it", core::tick(table, &last(settled), 153), on_b(0));
     // Latch 12 denied, class 4, condition 1, bit 0.
     if let Some(word) = shown.answers("status of port 2", core::read_status(table, 2), header::OK) {
         shown.is("  word", word.into(), 0x1043);

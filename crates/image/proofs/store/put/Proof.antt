@@ -1,6 +1,6 @@
 -- `put` leaves `imageOf`: the six bytes of the head, and then the 21 of each port, place by place.
 -- Assumes nothing.
-use mathlib.Core.Path.{_∙_, ap}
+use mathlib.Core.Path.{sym, _∙_, ap}
 use mathlib.Core.List.{List}
 use Prim.Native.Nat.{ℕ, _+_, _*_, _≤_, _-_}
 use native.Mathlib.Nat.{le-antisymm}
@@ -8,7 +8,8 @@ use native.Mathlib.Omega.{arith}
 use lib.ListN.{getD}
 use borrow.Author.Needs.{needs}
 use Rattle.table.specs.Form.{portAt}
-use Rattle.image.proofs.Written.{Written, written-none, written-more, written-at, written-all, head-byte, port-byte}
+use Rattle.image.specs.Laws.{head-byte, port-byte}
+use Rattle.image.proofs.Written.{Written, written-none, written-more, written-at, written-all}
 use Rattle.image.proofs.store.put.Statement.{statement}
 use Rattle.image.proofs.store.put.Tie as tie
 
@@ -50,7 +51,7 @@ put-spec =
     (λ c.
     let l = c .before .loop in
     let t = c .before .before .before .before .args .t1 in
-    (omega arith, written-more t (l .room) (l .k) _ (l .inv .1) (omega arith) (ap (λ (b : List ℕ). getD b (l .k) 0) (c .before .before .head-bytes .ensures) ∙ head-byte t (l .k) (c .loop-test .taken))))
+    (omega arith, written-more t (l .room) (l .k) _ (l .inv .1) (omega arith) (ap (λ (b : List ℕ). getD b (l .k) 0) (c .before .before .head-bytes .ensures) ∙ sym (head-byte t (l .k) (c .loop-test .taken)))))
     (λ c.
     let l = c .before .loop in
     let t = c .before .before .before .before .args .t1 in
@@ -76,7 +77,7 @@ put-spec =
       omega arith,
       written-at t _ (i + 1) (6 + 21 * o .p + (l .q + 1)) (omega arith)
           (written-more t (l .room) i _ (l .inv .1) (omega (arith, c .before .before .before .before .loop2-test .taken))
-          (ap (λ (b : List ℕ). getD b (l .q) 0) (c .before .before .port-bytes .ensures) ∙ port-byte t (o .p) (l .q) (c .loop3-test .taken))),
+          (ap (λ (b : List ℕ). getD b (l .q) 0) (c .before .before .port-bytes .ensures) ∙ sym (port-byte t (o .p) (l .q) (c .loop3-test .taken)))),
     ))
     (λ c. omega arith)
     (λ c. omega arith)
