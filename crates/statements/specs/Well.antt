@@ -1,4 +1,4 @@
--- Every move and every settling keeps a port well-made: a tick makes no ill-made table.
+-- The access switch's move keeps a port well-made; that settling does is a law of every board (`boards`).
 -- Assumes nothing.
 use Prim.Native.Nat.{_≤_}
 use mathlib.Core.Path.{_≡_, refl}
