@@ -249,7 +249,7 @@ module _ (s : Signs) (c : Counts) where
     below n m a h e = let x = ltb-true n m (and-right a (ltb n m) e) in omega arith
 
     -- state by state and enable by enable
-    look-is : (st : State) (e : ℕ) (d : ℕ) → e < 3 → looked (codeOf st) e d s c ≡ shown (quickIn st (enableNo e) (tenths d) s c) c
+    pub look-is : (st : State) (e : ℕ) (d : ℕ) → e < 3 → looked (codeOf st) e d s c ≡ shown (quickIn st (enableNo e) (tenths d) s c) c
     unfolding looked quickIn quickDetecting quickBackoff quickErrorDelay quickClassifying quickPowerUp quickPowerOn quickTestMode same
     look-is Disabled zero d h = simp or-false (chosen-same (eqb d 0) c)
     look-is Disabled (suc zero) d h = refl
