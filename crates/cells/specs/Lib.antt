@@ -4,4 +4,5 @@ pub mod Codes
 pub mod Laws
 pub mod Lent
 pub mod Pass
+pub mod Single
 pub mod Writes
