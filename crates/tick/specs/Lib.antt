@@ -1,5 +1,5 @@
 pub mod Digest
+pub mod OnCells
 pub mod Passes
-pub mod Settling
 pub mod Tally
 pub mod Tick
