@@ -14,6 +14,7 @@ ghost use lib.Dec.{leb};
 ghost use lib.ListN.{length, getD};
 ghost use Rattle.lists.specs.Total.{total};
 ghost use Rattle.settling.specs.Claim.{settlingChanges, settledAs};
+ghost use Rattle.share.specs.Share.{noClaim};
 ghost use Rattle.cells.specs.Cells.{portOf, written};
 ghost use Rattle.cells.specs.Laws.{Holds};
 ghost use Rattle.cells.specs.Writes.{withPortCells};
@@ -102,6 +103,13 @@ fn settle_all(cells: &mut [u16], n: usize, ranks: [u8; 48], kept: [bool; 48])
     }
 }
 
+// A rank that an asker may have, and what is no claim for all others.
+fn asker_rank(asks: u16) -> u8
+    ensures { λ r. ⌜ r ≡ cond (isSet asks) 3 noClaim ⌝ }
+{
+    if asks != 0 { 3 } else { share::NO_CLAIM }
+}
+
 // Every claim is kept: who asked enters its state.
 fn admit(cells: &mut [u16], n: usize, lane: &[u16])
     requires { ⌜ (length (now cells) ≡ 728) × (n ≤ 48) × (length (now lane) ≡ 48) × Holds n (now cells) × Classes n (now cells) ⌝ }
@@ -109,8 +117,7 @@ fn admit(cells: &mut [u16], n: usize, lane: &[u16])
 {
     let mut p = 0;
     while p < n {
-        let rank = if lane[p] != 0 { 3 } else { share::NO_CLAIM };
-        settle(cells, p, rank, true);
+        settle(cells, p, asker_rank(lane[p]), true);
         p += 1;
     }
 }

@@ -32,6 +32,12 @@ fn stepped(cells: &mut [u16], block: &[u8], p: usize, mark: u16) -> bool
     moved.asks
 }
 
+fn said(asks: bool) -> u16
+    ensures { λ r. ⌜ r ≡ one asks ⌝ }
+{
+    if asks { 1 } else { 0 }
+}
+
 // Eight ports from here on that have no mark.
 fn clear_ahead(lane: &[u16], p: usize, n: usize) -> bool
     requires { ⌜ (length (now lane) ≡ 48) × (p < n) × (n ≤ 48) ⌝ }
@@ -67,7 +73,7 @@ pub fn steps(cells: &mut [u16], n: usize, block: &[u8], lane: &mut [u16]) -> boo
             p += 8;
         } else {
             let asks = stepped(cells, block, p, lane[p]);
-            lane[p] = if asks { 1 } else { 0 };
+            lane[p] = said(asks);
             some = some | asks;
             p += 1;
         }

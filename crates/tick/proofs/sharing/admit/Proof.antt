@@ -3,6 +3,7 @@ use Rattle.tick.proofs.sharing.admit.Statement.{statement}
 use Rattle.tick.proofs.sharing.admit.Tie as tie
 use Rattle.tick.proofs.sharing.admit.Reads as reads
 use Rattle.tick.proofs.sharing.admit.Lts as lts
+use Rattle.tick.proofs.sharing.asker_rank.Reads as asker-rank-reads
 use Rattle.tick.proofs.sharing.settle.Reads as settle-reads
 
 abbrev Inv-loop : tie.InvT-loop
@@ -11,39 +12,43 @@ Inv-loop cells₀ n lane p₀ cells p = ?
 abbrev μ-loop : tie.MeasureT-loop
 μ-loop cells₀ n lane p₀ cells p = ?
 
--- src/sharing.rt:111:5
+-- src/sharing.rt:119:5
 loop-holds : tie.Need-loop-holds Inv-loop μ-loop
 loop-holds c = search needs
 
--- src/sharing.rt:112:23
-mul-if1 : tie.Need-mul-if1 Inv-loop μ-loop
-mul-if1 c = search needs
+-- src/sharing.rt:120:37
+mul-asker-rank : tie.Need-mul-asker-rank Inv-loop μ-loop
+mul-asker-rank c = search needs
 
--- src/sharing.rt:112:23
-shared-slice-read-if1 : tie.Need-shared-slice-read-if1 Inv-loop μ-loop
-shared-slice-read-if1 c = search needs
+-- src/sharing.rt:120:37
+shared-slice-read-asker-rank : tie.Need-shared-slice-read-asker-rank Inv-loop μ-loop
+shared-slice-read-asker-rank c = search needs
 
--- src/sharing.rt:113:9
+-- src/sharing.rt:120:26
+asker-rank-requires : tie.Need-asker-rank-requires Inv-loop μ-loop
+asker-rank-requires c κs = search needs
+
+-- src/sharing.rt:120:9
 settle-requires : tie.Need-settle-requires Inv-loop μ-loop
 settle-requires c κs = search needs
 
--- src/sharing.rt:114:9
+-- src/sharing.rt:121:9
 add-p : tie.Need-add-p Inv-loop μ-loop
 add-p c = search needs
 
--- src/sharing.rt:111:5
+-- src/sharing.rt:119:5
 loop-less : tie.Need-loop-less Inv-loop μ-loop
 loop-less c = search needs
 
--- src/sharing.rt:111:5
+-- src/sharing.rt:119:5
 loop-again : tie.Need-loop-again Inv-loop μ-loop
 loop-again c = search needs
 
--- src/sharing.rt:106:1
+-- src/sharing.rt:114:1
 same-length : tie.Need-same-length Inv-loop μ-loop
 same-length c = search needs
 
--- src/sharing.rt:106:1
+-- src/sharing.rt:114:1
 returns : tie.Need-returns Inv-loop μ-loop
 returns c = search needs
 
@@ -54,8 +59,9 @@ admit-spec =
     Inv-loop
     μ-loop
     loop-holds
-    mul-if1
-    shared-slice-read-if1
+    mul-asker-rank
+    shared-slice-read-asker-rank
+    asker-rank-requires
     settle-requires
     add-p
     loop-less

@@ -1,11 +1,13 @@
+-- `changes` is `settlingChanges`: the same tests.
+-- Assumes nothing.
+use borrow.Author.Needs.{needs}
+use Rattle.settling.specs.Claim.{settlingChanges}
 use Rattle.tick.proofs.sharing.changes.Statement.{statement}
 use Rattle.tick.proofs.sharing.changes.Tie as tie
-use Rattle.tick.proofs.sharing.changes.Reads as reads
-use Rattle.tick.proofs.sharing.changes.Lts as lts
-
--- src/sharing.rt:74:1
-returns : tie.Need-returns
-returns c = ?
 
 pub changes-spec : {M : Type 1} → statement M
-changes-spec = tie.close (tie.spec returns)
+unfolding settlingChanges
+changes-spec =
+    tie.close
+    (tie.spec
+    (λ c. search needs))

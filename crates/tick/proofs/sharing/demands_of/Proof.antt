@@ -1,68 +1,45 @@
+-- `demands_of` is `demandsOn`: the demands of the places below p.
+-- Assumes nothing.
+use Prim.Native.Nat.{_-_, _≤_}
+use mathlib.Core.Path.{refl}
+use native.Mathlib.Nat.{le-antisymm}
+use native.Mathlib.Omega.{arith}
+use lib.ListN.{replicate}
 use borrow.Author.Needs.{needs}
+use denote.Ref.{now}
+use Rattle.lists.specs.Places.{Filled, filled-none, filled-more, filled-over}
+use Rattle.power.specs.Power.{zeroPower}
+use Rattle.cells.specs.Cells.{portOf}
+use Rattle.tick.specs.Passes.{demandsOn}
 use Rattle.tick.proofs.sharing.demands_of.Statement.{statement}
 use Rattle.tick.proofs.sharing.demands_of.Tie as tie
-use Rattle.tick.proofs.sharing.demands_of.Reads as reads
-use Rattle.tick.proofs.sharing.demands_of.Lts as lts
 
 abbrev Inv-loop : tie.InvT-loop
-Inv-loop cells n demands₀ p₀ demands p = ?
+Inv-loop cells n demands₀ p₀ demands p = (p ≤ n) × Filled zeroPower (λ q. portOf cells q .demand) (replicate 48 zeroPower) p demands
 
 abbrev μ-loop : tie.MeasureT-loop
-μ-loop cells n demands₀ p₀ demands p = ?
-
--- src/sharing.rt:65:5
-loop-holds : tie.Need-loop-holds Inv-loop μ-loop
-loop-holds c = search needs
-
--- src/sharing.rt:66:34
-add-t8 : tie.Need-add-t8 Inv-loop μ-loop
-add-t8 c = search needs
-
--- src/sharing.rt:66:28
-mul-t9 : tie.Need-mul-t9 Inv-loop μ-loop
-mul-t9 c = search needs
-
--- src/sharing.rt:66:28
-shared-slice-read-t11 : tie.Need-shared-slice-read-t11 Inv-loop μ-loop
-shared-slice-read-t11 c = search needs
-
--- src/sharing.rt:67:9
-mul-demands : tie.Need-mul-demands Inv-loop μ-loop
-mul-demands c = search needs
-
--- src/sharing.rt:67:9
-array-set-from-demands : tie.Need-array-set-from-demands Inv-loop μ-loop
-array-set-from-demands c = search needs
-
--- src/sharing.rt:68:9
-add-p : tie.Need-add-p Inv-loop μ-loop
-add-p c = search needs
-
--- src/sharing.rt:65:5
-loop-less : tie.Need-loop-less Inv-loop μ-loop
-loop-less c = search needs
-
--- src/sharing.rt:65:5
-loop-again : tie.Need-loop-again Inv-loop μ-loop
-loop-again c = search needs
-
--- src/sharing.rt:58:1
-returns : tie.Need-returns Inv-loop μ-loop
-returns c = search needs
+μ-loop cells n demands₀ p₀ demands p = n - p
 
 pub demands-of-spec : {M : Type 1} → statement M
+unfolding demandsOn portOf
 demands-of-spec =
     tie.close
     (tie.spec
     Inv-loop
     μ-loop
-    loop-holds
-    add-t8
-    mul-t9
-    shared-slice-read-t11
-    mul-demands
-    array-set-from-demands
-    add-p
-    loop-less
-    loop-again
-    returns)
+    (λ c. (omega arith, filled-none _ _ _))
+    (λ c. omega arith)
+    (λ c. omega arith)
+    (λ c. omega (arith, c .before .before .before .pre .0, c .before .before .before .pre .1))
+    (λ c. omega arith)
+    (λ c. omega (arith, c .before .before .before .pre .1))
+    (λ c. omega arith)
+    (λ c. omega arith)
+    (λ c.
+    let l = c .before .before .loop in
+    let a = c .before .before .before .args in
+    (omega arith, filled-more zeroPower (λ q. portOf (now (a .cells)) q .demand) (replicate 48 zeroPower) (l .p) (l .demands) _ (l .inv .1) (omega (arith, c .before .before .before .pre .1)) refl))
+    (λ c.
+    let l = c .before .loop in
+    let a = c .before .before .args in
+    filled-over zeroPower (λ q. portOf (now (a .cells)) q .demand) zeroPower 48 (a .n) (l .demands) (rw (le-antisymm (l .inv .0) (c .loop-test .left)) at (l .inv .1))))

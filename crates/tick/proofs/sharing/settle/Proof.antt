@@ -1,49 +1,33 @@
+-- `settle` puts the settled port back where that changes it.
+-- Assumes nothing.
+use mathlib.Core.Path.{_≡_, sym, _∙_, ap}
+use mathlib.Core.Bool.{true, false}
+use mathlib.Core.List.{List}
 use borrow.Author.Needs.{needs}
+use denote.Ref.{now}
+use Rattle.port.specs.declared.form.Moved.{Moved}
+use Rattle.settling.specs.Claim.{settlingChanges, settledAs}
+use Rattle.cells.specs.Cells.{portOf}
+use Rattle.cells.specs.Writes.{withPortCells}
 use Rattle.tick.proofs.sharing.settle.Statement.{statement}
 use Rattle.tick.proofs.sharing.settle.Tie as tie
-use Rattle.tick.proofs.sharing.settle.Reads as reads
-use Rattle.tick.proofs.sharing.settle.Lts as lts
-use Rattle.settling.proofs.settled_port.Reads as settled-port-reads
-use Rattle.tick.proofs.ports.port_at.Reads as port-at-reads
-use Rattle.tick.proofs.ports.put_port.Reads as put-port-reads
-use Rattle.tick.proofs.sharing.changes.Reads as changes-reads
-
--- src/sharing.rt:84:8
-changes-requires : tie.Need-changes-requires
-changes-requires c κs = search needs
-
--- src/sharing.rt:85:48
-port-at-requires : tie.Need-port-at-requires
-port-at-requires c κs = search needs
-
--- src/sharing.rt:85:13
-settled-port-requires : tie.Need-settled-port-requires
-settled-port-requires c κs = search needs
-
--- src/sharing.rt:87:9
-put-port-requires : tie.Need-put-port-requires
-put-port-requires c κs = search needs
-
--- src/sharing.rt:80:1
-same-length : tie.Need-same-length
-same-length c = search needs
-
--- src/sharing.rt:80:1
-returns : tie.Need-returns
-returns c = ?
-
--- src/sharing.rt:80:1
-returns-2 : tie.Need-returns-2
-returns-2 c = ?
 
 pub settle-spec : {M : Type 1} → statement M
 settle-spec =
     tie.close
     (tie.spec
-    changes-requires
-    port-at-requires
-    settled-port-requires
-    put-port-requires
-    same-length
-    returns
-    returns-2)
+    (λ c κs. search needs)
+    (λ c κs. search needs)
+    (λ c κs. search needs)
+    (λ c κs. search needs)
+    (λ c. search needs)
+    (λ c.
+    let a = c .before .before .before .before .before .before .before .before .before .before .before .args in
+    let l = now (a .cells) in
+    let t : settlingChanges (a .rank) (a .kept) ≡ true = sym (c .before .before .before .before .before .before .before .before .before .changes .ensures) ∙ c .before .before .before .before .before .before .before .before .if1 .taken in
+    let s : c .before .before .before .before .before .settled-port .result ≡ settledAs (a .rank) (a .kept) (portOf l (a .p)) = c .before .before .before .before .before .settled-port .ensures ∙ ap (settledAs (a .rank) (a .kept)) (c .before .before .before .before .before .before .port-at .ensures) in
+    simp t (c .before .before .put-port .ensures ∙ ap (λ (m : Moved). withPortCells (a .p) (m .port) l) s))
+    (λ c.
+    let a = c .before .before .before .args in
+    let t : settlingChanges (a .rank) (a .kept) ≡ false = sym (c .before .changes .ensures) ∙ c .if1 .left in
+    simp t))
