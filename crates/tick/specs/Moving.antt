@@ -1,13 +1,17 @@
 -- The passes that take a port out of its cells, move it and put it back: how far they have come.
 -- Assumes nothing.
-use Prim.Native.Nat.{ℕ, _+_, _*_, _≤_, _<_}
+use Prim.Native.Nat.{ℕ, zero, suc, _+_, _*_, _≤_, _<_}
 use mathlib.Core.Path.{_≡_, refl, sym, _∙_, ap, ap₂}
-use mathlib.Core.Bool.{Bool, true, false, cond}
+use mathlib.Core.Bool.{Bool, true, false, cond, _&&_, _||_, or-false, false≢true}
 use mathlib.Core.List.{List}
 use mathlib.Core.Logic.{⊎-elim}
+use native.Mathlib.Nat.{add-zero, add-suc}
 use native.Mathlib.Omega.{arith}
+use lib.Dec.{eqb}
 use lib.ListN.{length, getD}
-use Rattle.lists.specs.Places.{side}
+use borrow.Author.Tests.{eqb-true}
+use Rattle.lists.specs.Every.{someBelow}
+use Rattle.lists.specs.Places.{Filled, side}
 use Rattle.port.specs.Form.{quietly}
 use Rattle.port.specs.declared.form.Moved.{Moved}
 use Rattle.port.specs.declared.form.Port.{Port}
@@ -85,3 +89,57 @@ module _ (n : ℕ) (g : ℕ → Port) (l : List ℕ) (few : n ≤ 48) (long : le
         (λ (y : j ≤ p). sym (stage-left j g (portOf l) p y))
         (side p j))
         (side p i))
+
+-- ---- eight places that are passed over at once
+
+-- the numbers of eight places are 0
+abbrev pub eightZero : List ℕ → ℕ → Bool
+eightZero l p =
+    ((((((eqb (getD l p 0) 0 && eqb (getD l (p + 1) 0) 0) && eqb (getD l (p + 2) 0) 0) && eqb (getD l (p + 3) 0) 0) && eqb (getD l (p + 4) 0) 0) && eqb (getD l (p + 5) 0) 0)
+    && eqb (getD l (p + 6) 0) 0) && eqb (getD l (p + 7) 0) 0
+
+eight-tests : (a b c d e f g h : Bool) → (((((((a && b) && c) && d) && e) && f) && g) && h) ≡ true → (a ≡ true) × (b ≡ true) × (c ≡ true) × (d ≡ true) × (e ≡ true) × (f ≡ true) × (g ≡ true) × (h ≡ true)
+eight-tests true true true true true true true true q = (refl, refl, refl, refl, refl, refl, refl, refl)
+eight-tests false b c d e f g h q = absurd (false≢true q)
+eight-tests true false c d e f g h q = absurd (false≢true q)
+eight-tests true true false d e f g h q = absurd (false≢true q)
+eight-tests true true true false e f g h q = absurd (false≢true q)
+eight-tests true true true true false f g h q = absurd (false≢true q)
+eight-tests true true true true true false g h q = absurd (false≢true q)
+eight-tests true true true true true true false h q = absurd (false≢true q)
+eight-tests true true true true true true true false q = absurd (false≢true q)
+
+pub eight-clear : (l : List ℕ) (p : ℕ) → eightZero l p ≡ true → (q : ℕ) → q < 8 → getD l (p + q) 0 ≡ 0
+eight-clear l p e q h = go (eight-tests _ _ _ _ _ _ _ _ e) q h
+  where
+    at : ℕ → Bool
+    at k = eqb (getD l (p + k) 0) 0
+
+    go : (eqb (getD l p 0) 0 ≡ true) × (at 1 ≡ true) × (at 2 ≡ true) × (at 3 ≡ true) × (at 4 ≡ true) × (at 5 ≡ true) × (at 6 ≡ true) × (at 7 ≡ true) → (q : ℕ) → q < 8 → getD l (p + q) 0 ≡ 0
+    go t zero h = rw add-zero (eqb-true _ _ (t .0))
+    go t (suc zero) h = eqb-true _ _ (t .1)
+    go t (suc (suc zero)) h = eqb-true _ _ (t .2)
+    go t (suc (suc (suc zero))) h = eqb-true _ _ (t .3)
+    go t (suc (suc (suc (suc zero)))) h = eqb-true _ _ (t .4)
+    go t (suc (suc (suc (suc (suc zero))))) h = eqb-true _ _ (t .5)
+    go t (suc (suc (suc (suc (suc (suc zero)))))) h = eqb-true _ _ (t .6)
+    go t (suc (suc (suc (suc (suc (suc (suc zero))))))) h = eqb-true _ _ (t .7)
+    go t (suc (suc (suc (suc (suc (suc (suc (suc q)))))))) h = absurd (omega arith)
+
+-- places that hold already what they are to hold
+pub filled-skip : (f : ℕ → ℕ) (old now : List ℕ) (i j : ℕ) → i ≤ j → Filled 0 f old i now → ((p : ℕ) → i ≤ p → p < j → getD now p 0 ≡ f p) → Filled 0 f old j now
+filled-skip f old now i j h F same =
+    record {
+      long = F .long;
+      done = λ p l. ⊎-elim (λ (x : p < i). F .done p x) (λ (x : i ≤ p). same p x l) (side p i);
+      left = λ p l. F .left p (omega arith);
+    }
+
+-- and of which none passes a test
+pub some-skip : (f : ℕ → Bool) (i k : ℕ) → ((p : ℕ) → i ≤ p → p < i + k → f p ≡ false) → someBelow (i + k) f ≡ someBelow i f
+unfolding someBelow
+some-skip f i zero none = ap (λ (n : ℕ). someBelow n f) (add-zero i)
+some-skip f i (suc k) none =
+    ap (λ (n : ℕ). someBelow n f) (add-suc i k)
+    ∙ ap₂ _||_ (some-skip f i k (λ p a b. none p a (omega arith))) (none (i + k) (omega arith) (omega arith))
+    ∙ or-false (someBelow i f)

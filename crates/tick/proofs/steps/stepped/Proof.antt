@@ -1,55 +1,37 @@
+-- `stepped` leaves a port without a mark as it is, and puts any other back after its whole step.
+-- Assumes nothing.
+use Prim.Native.Nat.{_*_}
+use mathlib.Core.Path.{_≡_, _∙_, ap, ap₂}
 use borrow.Author.Needs.{needs}
+use borrow.Author.Tests.{eq-eqb, ne-eqb}
+use denote.Ref.{now}
+use Rattle.power.specs.Power.{forced}
+use Rattle.reading.specs.Sample.{sampleAt}
+use Rattle.port.specs.declared.form.Moved.{Moved}
+use Rattle.diagram.specs.Step.{step}
+use Rattle.cells.specs.Cells.{portOf}
+use Rattle.cells.specs.Writes.{withPortCells}
+use Rattle.tick.specs.Digest.{digest}
+use Rattle.tick.specs.Passes.{wholeMove, markedMove}
 use Rattle.tick.proofs.steps.stepped.Statement.{statement}
 use Rattle.tick.proofs.steps.stepped.Tie as tie
-use Rattle.tick.proofs.steps.stepped.Reads as reads
-use Rattle.tick.proofs.steps.stepped.Lts as lts
-use Rattle.diagram.proofs.step.Reads as step-reads
-use Rattle.tick.proofs.block.sample.Reads as sample-reads
-use Rattle.tick.proofs.digest.digest_of.Reads as digest-of-reads
-use Rattle.tick.proofs.ports.port_at.Reads as port-at-reads
-use Rattle.tick.proofs.ports.put_port.Reads as put-port-reads
-
--- src/steps.rt:27:9
-returns : tie.Need-returns
-returns c = ?
-
--- src/steps.rt:29:37
-port-at-requires : tie.Need-port-at-requires
-port-at-requires c κs = search needs
-
--- src/steps.rt:29:66
-sample-requires : tie.Need-sample-requires
-sample-requires c κs = search needs
-
--- src/steps.rt:29:56
-digest-of-requires : tie.Need-digest-of-requires
-digest-of-requires c κs = search needs
-
--- src/steps.rt:29:9
-step-requires : tie.Need-step-requires
-step-requires c κs = search needs
-
--- src/steps.rt:31:5
-put-port-requires : tie.Need-put-port-requires
-put-port-requires c κs = search needs
-
--- src/steps.rt:21:1
-same-length : tie.Need-same-length
-same-length c = search needs
-
--- src/steps.rt:21:1
-returns-2 : tie.Need-returns-2
-returns-2 c = ?
 
 pub stepped-spec : {M : Type 1} → statement M
+unfolding wholeMove markedMove
 stepped-spec =
     tie.close
     (tie.spec
-    returns
-    port-at-requires
-    sample-requires
-    digest-of-requires
-    step-requires
-    put-port-requires
-    same-length
-    returns-2)
+    (λ c. let e = eq-eqb _ _ (c .if1 .taken) in (simp e, simp e))
+    (λ c κs. search needs)
+    (λ c κs. search needs)
+    (λ c κs. search needs)
+    (λ c κs. search needs)
+    (λ c κs. search needs)
+    (λ c. search needs)
+    (λ c.
+    let a = c .before .before .before .before .before .before .before .before .before .before .before .before .before .args in
+    let l = now (a .cells) in
+    let e = ne-eqb _ _ (c .before .before .before .before .before .before .before .before .before .before .if1 .left) in
+    let s : c .before .before .before .before .before .step .result ≡ wholeMove (now (a .block)) l (a .p) =
+    c .before .before .before .before .before .step .ensures ∙ ap₂ (step forced) (c .before .before .before .before .before .before .before .before .port-at .ensures) (c .before .before .before .before .before .before .digest-of .ensures ∙ ap digest (c .before .before .before .before .before .before .before .sample .ensures)) in
+    (simp e (ap (λ (m : Moved). m .asks) s), simp e (c .before .before .put-port .ensures ∙ ap (λ (m : Moved). withPortCells (a .p) (m .port) l) s))))
