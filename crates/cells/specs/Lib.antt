@@ -4,4 +4,5 @@ pub mod Codes
 pub mod Laws
 pub mod Lent
 pub mod Pass
+pub mod Round
 pub mod Writes
