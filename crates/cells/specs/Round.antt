@@ -1,13 +1,13 @@
 -- A table written into cells is what the cells then are.
 -- Assumes nothing.
-use mathlib.Core.Path.{_≡_, refl, sym, _∙_, ap}
+use mathlib.Core.Path.{_≡_, sym, _∙_, ap}
 use mathlib.Core.Bool.{true}
 use mathlib.Core.List.{List}
 use mathlib.Core.Logic.{⊎-elim}
 use Prim.Native.Nat.{ℕ, _+_, _*_, _≤_, _<_}
 use native.Mathlib.Nat.{le-refl}
 use native.Mathlib.Omega.{arith}
-use lib.Dec.{eqb, leb, ltb}
+use lib.Dec.{eqb}
 use lib.ListN.{length, getD, set, replicate, length-set, length-replicate}
 use lib.Seq.{getD-set-same, getD-set-other}
 use borrow.Author.Tests.{eq-eqb, eqb-true, lt-ltb, le-leb}
@@ -18,7 +18,7 @@ use Rattle.power.specs.Power.{tenths}
 use Rattle.port.specs.declared.form.Port.{Port}
 use Rattle.table.specs.Form.{noPort, portAt}
 use Rattle.table.specs.declared.form.Table.{Table}
-use Rattle.cells.specs.Cells.{cellsLong, countCell, supplyCell, countsOf, portOf, tableOf, portHolds, isTable, fieldsOf, written, cellsWith, cellsOf}
+use Rattle.cells.specs.Cells.{cellsLong, countCell, supplyCell, countsOf, portOf, tableOf, portHolds, isTable, written, cellsWith, cellsOf}
 use Rattle.cells.specs.CodeLaws.{code-small, latches-small}
 use Rattle.cells.specs.Codes.{stateOf, latchesOf}
 use Rattle.cells.specs.Laws.{written-long, written-head, written-field, port-written, port-past, table-at}

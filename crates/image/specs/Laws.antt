@@ -6,7 +6,6 @@ use mathlib.Core.Bool.{true}
 use mathlib.Core.List.{List, [], _∷_, _++_}
 use mathlib.Core.Logic.{⊎-elim}
 use Prim.Native.Nat.{ℕ, _+_, _-_, _*_, _/_, _%_, _≤_, _<_}
-use native.Mathlib.Nat.{le-refl}
 use native.Mathlib.Omega.{arith}
 use lib.Dec.{ltb, leb, eqb}
 use lib.ListN.{length, getD}
@@ -18,7 +17,7 @@ use Rattle.power.specs.Power.{tenths}
 use Rattle.port.specs.declared.form.Port.{Port}
 use Rattle.table.specs.Form.{noPort, portAt}
 use Rattle.table.specs.declared.form.Table.{Table}
-use Rattle.cells.specs.Cells.{cellsLong, portOf, tableOf, portHolds, cellsOf}
+use Rattle.cells.specs.Cells.{portOf, tableOf, cellsOf}
 use Rattle.cells.specs.CodeLaws.{state-back, code-small, code-again, latches-back, latches-small, latches-again}
 use Rattle.cells.specs.Codes.{stateOf, latchesOf}
 use Rattle.cells.specs.Round.{cells-long, cells-port, cells-holds, cells-table}
