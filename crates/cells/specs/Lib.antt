@@ -3,6 +3,7 @@ pub mod CodeLaws
 pub mod Codes
 pub mod Laws
 pub mod Lent
+pub mod LentLaws
 pub mod Pass
 pub mod Single
 pub mod Writes
