@@ -1,15 +1,17 @@
 -- Each state and each set of latches has its own number, and each number that has a meaning is written again as it was.
 -- Assumes nothing.
 use mathlib.Core.Path.{_≡_, refl, sym, _∙_, ap}
+use mathlib.Core.Bool.{_||_}
+use mathlib.Core.Logic.{⊎-elim}
 use Prim.Native.Nat.{ℕ, _/_, _%_, _≤_, _<_, _^_}
 use native.Mathlib.Omega.{arith}
 use lib.Dec.{eqb}
-use borrow.Author.Tests.{eqb-true}
+use borrow.Author.Tests.{eqb-true, ne-eqb}
 use Rattle.lists.specs.Bits.{bit, one-small, one-says}
-use Rattle.lists.specs.Places.{tabulate, getD-tabulate}
+use Rattle.lists.specs.Places.{side, tabulate, tabulate-at, getD-tabulate}
 use Rattle.lists.specs.Table.{all, entry}
 use Rattle.words.specs.declared.status.Latches.{Latches}
-use Rattle.port.specs.States.{codeOf}
+use Rattle.port.specs.States.{codeOf, closed, inDisabled, inPowerOn}
 use Rattle.port.specs.declared.form.State.{State}
 use Rattle.port.specs.declared.form.State.the-variants.{Disabled, Idle, Detecting, Backoff, Classifying, PowerUp, PowerOn, ErrorDelay, TestMode, TestError}
 use Rattle.cells.specs.Codes.{stateOf, latchByte, latchesOf}
@@ -78,3 +80,44 @@ latches-again n h =
     ap (λ (m : ℕ). latchByte (latchesOf m)) (sym (getD-tabulate 64 (λ k. k) 0 n h))
     ∙ eqb-true _ _ (entry (λ m. eqb (latchByte (latchesOf m)) m) 0 (tabulate 64 (λ k. k)) refl n h)
     ∙ getD-tabulate 64 (λ k. k) 0 n h
+
+-- ---- what the rules ask of a state, asked of its code
+
+over-nine : (n : ℕ) → 10 ≤ n → stateOf n ≡ TestError
+over-nine n h =
+    simp (
+      ne-eqb n 0 (λ e. omega arith),
+      ne-eqb n 1 (λ e. omega arith),
+      ne-eqb n 2 (λ e. omega arith),
+      ne-eqb n 3 (λ e. omega arith),
+      ne-eqb n 4 (λ e. omega arith),
+      ne-eqb n 5 (λ e. omega arith),
+      ne-eqb n 6 (λ e. omega arith),
+      ne-eqb n 7 (λ e. omega arith),
+      ne-eqb n 8 (λ e. omega arith),
+    )
+
+-- the checker computes both tests at each code that there is
+pub disabled-code : (n : ℕ) → inDisabled (stateOf n) ≡ eqb n 0
+unfolding tabulate
+disabled-code n =
+    ⊎-elim
+    (tabulate-at 10 (λ k. inDisabled (stateOf k)) (λ k. eqb k 0) refl n)
+    (λ (h : 10 ≤ n). ap inDisabled (over-nine n h) ∙ sym (ne-eqb n 0 (λ e. omega arith)))
+    (side n 10)
+
+pub power-on-code : (n : ℕ) → inPowerOn (stateOf n) ≡ eqb n 6
+unfolding tabulate
+power-on-code n =
+    ⊎-elim
+    (tabulate-at 10 (λ k. inPowerOn (stateOf k)) (λ k. eqb k 6) refl n)
+    (λ (h : 10 ≤ n). ap inPowerOn (over-nine n h) ∙ sym (ne-eqb n 6 (λ e. omega arith)))
+    (side n 10)
+
+pub closed-code : (n : ℕ) → closed (stateOf n) ≡ ((eqb n 5 || eqb n 6) || eqb n 8)
+unfolding tabulate
+closed-code n =
+    ⊎-elim
+    (tabulate-at 10 (λ k. closed (stateOf k)) (λ k. (eqb k 5 || eqb k 6) || eqb k 8) refl n)
+    (λ (h : 10 ≤ n). ap closed (over-nine n h) ∙ sym (simp (ne-eqb n 5 (λ e. omega arith), ne-eqb n 6 (λ e. omega arith), ne-eqb n 8 (λ e. omega arith))))
+    (side n 10)
