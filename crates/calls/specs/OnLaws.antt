@@ -4,21 +4,15 @@ use Prim.Native.Nat.{ℕ, _+_, _≤_, _<_}
 use mathlib.Core.Path.{_≡_, refl, sym, _∙_, ap}
 use mathlib.Core.Bool.{Bool, true, false, cond}
 use mathlib.Core.List.{List, [], _∷_}
-use mathlib.Core.Logic.{⊎-elim}
-use native.Mathlib.Nat.{eq-or-lt-of-le}
 use native.Mathlib.Omega.{arith}
 use lib.Dec.{eqb, leb}
 use lib.ListN.{length, getD, set, drop}
 use borrow.Author.Tests.{le-leb, lt-leb, eqb-true, eqb-false}
 use Rattle.lists.specs.Ladder.{ladder}
-use Rattle.lists.specs.Places.{side}
 use Rattle.power.specs.Power.{tenths}
 use Rattle.power.specs.declared.Power.{Power}
-use Rattle.words.specs.Status.{noLatches}
 use Rattle.port.specs.States.{closed}
 use Rattle.port.specs.declared.form.Port.{Port}
-use Rattle.table.specs.declared.form.StatusRead.{StatusRead}
-use Rattle.table.specs.declared.form.Table.{Table}
 use Rattle.table.specs.declared.form.Told.{Told}
 use Rattle.table.specs.Drawn.{draws}
 use Rattle.table.specs.Form.{portAt, withPort, done, refuse, refuseStatus}
@@ -28,7 +22,7 @@ use Rattle.cells.specs.Codes.{stateOf, latchByte, latchesOf}
 use Rattle.cells.specs.Laws.{table-at}
 use Rattle.cells.specs.Single.{single, with-port-same, with-port-other}
 use Rattle.well.specs.Judged.{wellCells}
-use Rattle.well.specs.Laws.{WellCells, cells-of, ill-cells, well-goes}
+use Rattle.well.specs.Laws.{cells-of, ill-cells, well-goes}
 use Rattle.calls.specs.Calls.{withControl, controlRefusals, writeControl, unlatched, statusAt, readStatus, levelOf, demanding, granting, requestRefusals, request}
 use Rattle.calls.specs.OnCells.{controlOn, statusOn, requestOn}
 
