@@ -3,6 +3,8 @@ pub mod CodeLaws
 pub mod Codes
 pub mod Laws
 pub mod Lent
+pub mod LentLaws
 pub mod Pass
+pub mod Round
 pub mod Single
 pub mod Writes

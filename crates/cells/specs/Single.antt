@@ -1,8 +1,8 @@
 -- One cell set: the port of that place has then another field, and all else is as it was.
 -- Assumes nothing.
-use mathlib.Core.Path.{_≡_, refl, sym, _∙_, ap}
+use mathlib.Core.Path.{_≡_, sym, _∙_, ap}
 use mathlib.Core.List.{List, [], _∷_}
-use mathlib.Core.Logic.{_⊎_, inl, inr, ⊎-elim}
+use mathlib.Core.Logic.{⊎-elim}
 use Prim.Native.Nat.{ℕ, _+_, _*_, _≤_, _<_}
 use native.Mathlib.Omega.{arith}
 use lib.ListN.{length, getD, set}
@@ -10,7 +10,6 @@ use lib.Seq.{getD-set-same, getD-set-other, set-getD}
 use Rattle.lists.specs.Places.{tabulate, length-tabulate}
 use Rattle.port.specs.declared.form.Port.{Port}
 use Rattle.table.specs.Form.{noPort, portAt, withPort}
-use Rattle.table.specs.declared.form.Table.{Table}
 use Rattle.cells.specs.Cells.{cellsLong, countCell, portOf, tableOf, fieldsOf, written, cellsWith}
 use Rattle.cells.specs.Laws.{Holds, written-self, writes-written, table-at}
 use Rattle.cells.specs.Writes.{writes}

@@ -3,7 +3,7 @@
 use power::Power;
 use reading::class::BUDGETS;
 ghost use mathlib.Core.Path.{_≡_};
-ghost use mathlib.Core.Bool.{cond, not, _&&_};
+ghost use mathlib.Core.Bool.{cond, not};
 ghost use Prim.Native.Nat.{_<_, _≤_, max};
 ghost use lib.Dec.{leb};
 ghost use lib.ListN.{length};

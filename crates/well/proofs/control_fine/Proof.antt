@@ -4,7 +4,7 @@ use Prim.Native.Nat.{ℕ, _/_, _%_}
 use mathlib.Core.Path.{_≡_, refl}
 use mathlib.Core.Bool.{Bool, not, _&&_}
 use mathlib.Core.Logic.{⊎-elim}
-use lib.Dec.{leb, ltb, eqb}
+use lib.Dec.{ltb, eqb}
 use borrow.Author.Tests.{le-leb, le-ltb}
 use Rattle.lists.specs.Bits.{field, above}
 use Rattle.lists.specs.Places.{side, tabulate, tabulate-at}

@@ -1,5 +1,4 @@
 -- `well_head` is `headCells`: the length, and then the head. Assumes nothing.
-use mathlib.Core.Path.{_∙_}
 use borrow.Author.Needs.{needs}
 use borrow.Author.Tests.{eq-eqb, ne-eqb}
 use Rattle.well.specs.Judged.{headCells}

@@ -1,8 +1,7 @@
 -- `well_made` is `wellCells`: no fault has been counted exactly if each port below p is fine. The count is at most 48, so no cell is past the end.
 -- Assumes nothing.
-use mathlib.Core.Path.{_≡_, refl, sym, _∙_, ap, ap₂}
+use mathlib.Core.Path.{_≡_, refl, sym, _∙_, ap}
 use mathlib.Core.Bool.{Bool, true, false, cond, _&&_}
-use mathlib.Core.List.{List}
 use Prim.Native.Nat.{ℕ, _+_, _≤_, _-_}
 use native.Mathlib.Nat.{le-antisymm}
 use native.Mathlib.Omega.{arith}
@@ -12,7 +11,7 @@ use lib.Dec.{eqb}
 use denote.Ref.{now}
 use Rattle.lists.specs.Every.{every, every-next}
 use Rattle.cells.specs.Cells.{countCell}
-use Rattle.well.specs.Judged.{headCells, wellCells, portFine}
+use Rattle.well.specs.Judged.{headCells, portFine}
 use Rattle.well.specs.Laws.{no-fault, well-cells, head-long, head-count}
 use Rattle.well.proofs.well_made.Statement.{statement}
 use Rattle.well.proofs.well_made.Tie as tie
