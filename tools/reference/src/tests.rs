@@ -105,7 +105,7 @@ fn walk_to_power() {
         let answer = if tick >= 4 { "ticked 1 0 1" } else { "ticked 0 0 0" };
         dialogue(&mut console, &[(&line, answer)]);
     }
-    assert_eq!(console.table.ports[0].state, State::PowerOn);
+    assert_eq!(console.cells[8], State::PowerOn as u16);
     dialogue(
         &mut console,
         &[
