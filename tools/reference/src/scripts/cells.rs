@@ -44,6 +44,14 @@ const BAD: [&str; 24] = [
 /// Most turns go to the one cell that breaks a table: three rounds have all values
 /// of it, on both sides.
 pub fn cells(maker: &mut Maker) {
+    // Where lines are not scarce, more ticks and tables that chance makes.
+    if !maker.scarce {
+        match maker.r.below(8) {
+            0 | 1 => return ticks(maker),
+            2 => return by_chance(maker),
+            _ => {}
+        }
+    }
     match maker.cell_turn(0) % 52 {
         0 | 26 => other_number(maker),
         5 | 15 | 25 | 35 | 45 => past_the_count(maker),
@@ -340,6 +348,37 @@ fn cold_over(maker: &mut Maker) {
         maker.say(&format!("cold {count}"));
         show(maker);
     }
+}
+
+/// Cells that chance makes, most of them near what is allowed: often one or two are
+/// wrong, somewhere, and seldom it is known before which.
+fn by_chance(maker: &mut Maker) {
+    let count = if maker.r.chance(20) { PLACES } else { few(&mut maker.r, 1) };
+    let (mut cells, on) = well_made(maker, count);
+    let r = &mut maker.r;
+    let faults = port_faults();
+    for _ in 0..r.below(4) {
+        let (field, value) = r.pick(&faults);
+        let places = [r.below(48), count as u64, count as u64 - 1, r.below(count as u64)];
+        let place = r.pick(&places);
+        let value = if r.chance(50) { value } else { r.pick(&[0, 4, 9, 40, 63, 300, 2_000]) };
+        cells[at(field, place.min(47) as usize)] = value;
+    }
+    if r.chance(15) {
+        cells[COUNT] = r.between(1, 48) as u16;
+    }
+    if r.chance(10) {
+        cells[SUPPLY] = r.between(59_999, 60_002) as u16;
+    }
+    cells_line(maker, &cells);
+    for call in calls(maker, &cells, on, on, 0) {
+        shown(maker, &call);
+    }
+    for _ in 0..maker.r.below(8) {
+        some_call(maker);
+        show(maker);
+    }
+    maker.say("dump");
 }
 
 /// Ticks in numbers, amid noise.
