@@ -240,8 +240,10 @@ fn past_the_count(maker: &mut Maker) {
     }
     cells_line(maker, &cells);
     for call in calls(maker, &cells, on, on, turn) {
-        // A request is for a port in POWER_ON: the tick may have led it away.
-        if call.starts_with("request") && maker.console.cells[at(0, on)] != 6 {
+        // The tick may have led the port out of POWER_ON, or stored too little for it.
+        let held = &maker.console.cells;
+        let led_away = held[at(0, on)] != 6 || held[SUPPLY] < cells[SUPPLY];
+        if call.starts_with("request") && led_away {
             cells_line(maker, &cells);
         }
         shown(maker, &call);
@@ -388,7 +390,7 @@ fn ticks(maker: &mut Maker) {
     cells_line(maker, &cells);
     let number = match (maker.scarce, count) {
         (_, PLACES) => 6,
-        (true, _) => 50,
+        (true, _) => 36,
         _ => maker.r.between(5, 40),
     };
     for k in 0..number {
@@ -469,7 +471,7 @@ fn images(maker: &mut Maker) {
     cells_line(maker, &whole);
     maker.say("dump");
     let odd = [(cells::STATE, 10), (cells::LATCHES, 64), (cells::CLASS, 256)];
-    let turn = maker.cell_turn(7);
+    let turn = maker.cell_turn(9);
     for (k, (field, value)) in odd.into_iter().enumerate() {
         for past in [false, true] {
             // Where lines are scarce, one side of the count at a time.
@@ -497,15 +499,15 @@ fn images(maker: &mut Maker) {
 fn odd_lines(maker: &mut Maker) {
     let (cells, _) = well_made(maker, 2);
     cells_line(maker, &cells);
-    let turn = maker.cell_turn(6);
+    let turn = maker.cell_turn(8);
     for k in 0..8 {
         maker.say(BAD[(8 * turn + k) % BAD.len()]);
     }
-    match turn % 3 {
-        0 => maker.say(&format!("cells {}", "0".repeat(4 * MOST_CELLS + 4))),
-        1 => maker.say(&format!("cells {}", "0".repeat(4 * MOST_CELLS + 2))),
-        _ => maker.say(&format!("cells {}", "0".repeat(4 * CELLS - 2))),
-    };
+    // One cell too many, and half a cell too many or too few.
+    let half = maker.r.pick(&[4 * MOST_CELLS + 2, 4 * CELLS - 2]);
+    for digits in [4 * MOST_CELLS + 4, half] {
+        maker.say(&format!("cells {}", "0".repeat(digits)));
+    }
     show(maker);
     let number = maker.r.pick(&[1, 2, 7, 8, 56, FIELDS]);
     let few: Vec<u16> = (0..number).map(|_| any_cell(&mut maker.r)).collect();

@@ -78,7 +78,7 @@ pub struct Maker {
     images: u64,
     scarce: bool,
     turns: [u64; 12],
-    cell_turns: [u64; 8],
+    cell_turns: [u64; 10],
     /// How often a dump came right after each exit of a walk.
     dumped: BTreeMap<(State, State, &'static str), u64>,
     pub long_lines: u64,
@@ -97,7 +97,7 @@ pub fn made(seed: u64, wanted: u64, kind: Kind) -> Vec<u8> {
         images: 0,
         scarce: kind == Kind::Mixed,
         turns: [0; 12],
-        cell_turns: [0; 8],
+        cell_turns: [0; 10],
         dumped: BTreeMap::new(),
         long_lines: 0,
         walk_lines: 0,
