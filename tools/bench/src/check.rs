@@ -43,18 +43,24 @@ fn by_door(before: &[u8], block: &[u8], figure: u64) -> Option<Outcome> {
     Some((laps::closed(0, answer), after))
 }
 
-fn by_reference(console: &mut Console, block: &[u8], figure: u64) -> Outcome {
-    let answer = match console.table.tick(figure, block) {
+/// None for cells that no image shows.
+fn pictured(console: &Console) -> Option<Vec<u8>> {
+    reference::cells::pictured(&console.cells).map(|table| reference::image::written(&table))
+}
+
+fn by_reference(console: &mut Console, block: &[u8], figure: u64) -> Option<Outcome> {
+    let answer = match console.tick(figure, block) {
         Ok(t) => Closed::Ports(t.mask_a, t.mask_b, t.closed),
         Err(k) => Closed::Refused(k),
     };
-    (laps::closed(0, answer), reference::image::written(&console.table))
+    Some((laps::closed(0, answer), pictured(console)?))
 }
 
 /// One tick by all.
 fn compared(console: &mut Console, block: &[u8], figure: u64) -> Result<u64, String> {
-    let before = reference::image::written(&console.table);
-    let wanted = by_reference(console, block, figure);
+    let none = "a table that is no image";
+    let before = pictured(console).ok_or(none)?;
+    let wanted = by_reference(console, block, figure).ok_or(none)?;
     let (cells, answer) = lent::laps::one(&cells::of_image(&before), block, figure);
     let lent = (laps::closed(0, answer), cells);
     let differing = [
@@ -75,17 +81,20 @@ fn kind(of: &str) -> Kind {
     Kind::named(of).unwrap_or(Kind::Mixed)
 }
 
-/// The ticks of a script, on the table that each of them meets.
+/// The ticks of a script, on the table that each of them meets, if an image shows that.
 fn script(seed: u64, name: &str) -> Result<(), String> {
     let script = scripts::made(seed, SCRIPT_LINES, kind(name));
     let mut console = Console::new();
     let (mut lines, mut ticks) = (0u64, 0u64);
     for line in script.split(|&byte| byte == b'\n') {
-        if let Some(Line::Tick(figure, block)) = parsed(line) {
-            compared(&mut console, &block, figure)?;
-            ticks += 1;
-        } else {
-            console.answer(line);
+        match parsed(line) {
+            Some(Line::Tick(figure, block)) if pictured(&console).is_some() => {
+                compared(&mut console, &block, figure)?;
+                ticks += 1;
+            }
+            _ => {
+                console.answer(line);
+            }
         }
         lines += 1;
     }
@@ -197,7 +206,8 @@ fn random_tables() -> Result<(), String> {
         let ill = r.chance(10);
         let image = table(&mut r, count, ill);
         let mut console = Console::new();
-        console.table = reference::image::read(&image).ok_or("a table from nowhere is no image")?;
+        let table = reference::image::read(&image).ok_or("a table from nowhere is no image")?;
+        console.cells = reference::cells::all(&table);
         for _ in 0..4 {
             let reserved = r.chance(8);
             let mut block = block(&mut r, count.min(49), reserved);
