@@ -142,6 +142,8 @@ static void images(void) {
     struct ipaqsuni_table before = table;
     uint32_t status = 77;
 
+    memset(image, 0xa5, sizeof image);
+    memset(blank, 0xa5, sizeof blank);
     is("save in 1,013 bytes", ipaqsuni_save(IPAQSUNI_LENT(&table), image, sizeof image - 1), IPAQSUNI_BAD_LENGTH);
     is("save of 727 cells", ipaqsuni_save((uint16_t *)&table, IPAQSUNI_CELLS - 1, image, sizeof image), IPAQSUNI_ILL_MADE);
     table.state[47] = 10;

@@ -173,7 +173,8 @@ fn requests(shown: &mut Shown, table: &mut [u16]) {
 /// The table that was left, through its image, and past the count whatever stands there.
 fn images(shown: &mut Shown, table: &mut [u16]) {
     let before = table.to_vec();
-    let mut image = [0; IMAGE];
+    let blank = [0xa5; IMAGE];
+    let mut image = blank;
     let cut = core::save(table, &mut image[..IMAGE - 1]);
     shown.answers("save in 1,013 bytes", cut, header::BAD_LENGTH);
     let cut = core::save(&table[..CELLS - 1], &mut image);
@@ -182,7 +183,7 @@ fn images(shown: &mut Shown, table: &mut [u16]) {
     table[past] = 10;
     let saved = core::save(table, &mut image);
     shown.answers("save of a state 10 past the count", saved, header::ILL_MADE);
-    shown.is("the image is as it was", u64::from(image == [0; IMAGE]), 1);
+    shown.is("the image is as it was", u64::from(image == blank), 1);
     let status = core::read_status(table, 2);
     if let Some(word) = shown.answers("status, beside that state", status, header::OK) {
         shown.is("  word", word.into(), 0x0043);
