@@ -12,8 +12,8 @@
  *   - Cells that are no table are refused with 13, before everything else: another length, or in a port below the count a state
  *     over 9 or a latch bit over 5. So is a table that is ill-made (13 below).
  *   - Places at or past the count may hold anything, are never looked at and never change. Reserved cells are 0 after a cold start
- *     or a restore, and are never looked at or changed by any other call. (A cold start and a restore write every cell, and a save
- *     looks at all 48 places.)
+ *     or a restore, and are never looked at or changed by any other call. (A cold start and a restore look at the number of cells
+ *     alone, and write every cell; a save looks at all 48 places, and takes an ill-made table too.)
  *   - What an accepted call leaves in the cells is the table that document 01's rules give.
  *   - No refusal is numbered 0.
  *
