@@ -105,3 +105,60 @@ module _ (lane : List ℕ) (p : ℕ) (sided : Sided lane) (h : p ≤ 40) where
 
   pub weighed-high : weighed lane p / 256 ≡ mask 8 (λ j. isB lane (p + j))
   weighed-high = omega (arith, weighed-is, mask-below 8 (λ j. isA lane (p + j)))
+
+-- ---- the lane that a pass leaves
+
+module _ (n : ℕ) (l lane₀ : List ℕ) (clear : (p : ℕ) → n ≤ p → p < 48 → getD lane₀ p 0 ≡ 0) where
+  lane-within : (p : ℕ) → p < 48 → p < n → getD (sideLane n l lane₀) p 0 ≡ sideOf (portOf l p)
+  unfolding sideLane
+  lane-within p h x = getD-tabulate 48 (λ q. cond (ltb q n) (sideOf (portOf l q)) (getD lane₀ q 0)) 0 p h ∙ ap (λ (t : Bool). cond t (sideOf (portOf l p)) (getD lane₀ p 0)) (lt-ltb p n x)
+
+  lane-past : (p : ℕ) → p < 48 → n ≤ p → getD (sideLane n l lane₀) p 0 ≡ 0
+  unfolding sideLane
+  lane-past p h x =
+      getD-tabulate 48 (λ q. cond (ltb q n) (sideOf (portOf l q)) (getD lane₀ q 0)) 0 p h
+      ∙ ap (λ (t : Bool). cond t (sideOf (portOf l p)) (getD lane₀ p 0)) (le-ltb p n x)
+      ∙ clear p x h
+
+  -- it has sides alone
+  pub side-lane-sided : Sided (sideLane n l lane₀)
+  unfolding sideIn
+  side-lane-sided p h =
+      ⊎-elim
+      (λ (x : p < n). rw (lane-within p h x) (sides-of (closed (portOf l p .state)) (pairOf (portOf l p .control)) .0))
+      (λ (x : n ≤ p). rw (lane-past p h x) refl)
+      (side p n)
+
+  -- and its masks are those of the table with these ports
+  module _ (T : Table) (counted : T .count ≡ n) (same : (p : ℕ) → p < n → portOf l p ≡ portAt T p) where
+    pub side-lane-a : mask 48 (λ p. eqb (getD (sideLane n l lane₀) p 0) 1) ≡ maskA T
+    unfolding mask maskA closedAt sideIn
+    side-lane-a =
+        total-cong 48 (λ p. place p (isA (sideLane n l lane₀) p)) (λ p. place p (closedAt T p && namesA (pairOf (portAt T p .control))))
+        (λ p h.
+        ap (place p)
+        (⊎-elim
+        (λ (x : p < n).
+        ap (λ (v : ℕ). eqb v 1) (lane-within p h x) ∙ sides-of (closed (portOf l p .state)) (pairOf (portOf l p .control)) .1
+        ∙ ap (λ (q : Port). onA (q .state) (q .control)) (same p x)
+        ∙ sym (ap (λ (t : Bool). (t && closed (portAt T p .state)) && namesA (pairOf (portAt T p .control))) (lt-ltb p (T .count) (omega (arith, counted)))))
+        (λ (x : n ≤ p).
+        ap (λ (v : ℕ). eqb v 1) (lane-past p h x)
+        ∙ sym (ap (λ (t : Bool). (t && closed (portAt T p .state)) && namesA (pairOf (portAt T p .control))) (le-ltb p (T .count) (omega (arith, counted)))))
+        (side p n)))
+
+    pub side-lane-b : mask 48 (λ p. eqb (getD (sideLane n l lane₀) p 0) 256) ≡ maskB T
+    unfolding mask maskB closedAt sideIn
+    side-lane-b =
+        total-cong 48 (λ p. place p (isB (sideLane n l lane₀) p)) (λ p. place p (closedAt T p && namesB (pairOf (portAt T p .control))))
+        (λ p h.
+        ap (place p)
+        (⊎-elim
+        (λ (x : p < n).
+        ap (λ (v : ℕ). eqb v 256) (lane-within p h x) ∙ sides-of (closed (portOf l p .state)) (pairOf (portOf l p .control)) .2
+        ∙ ap (λ (q : Port). onB (q .state) (q .control)) (same p x)
+        ∙ sym (ap (λ (t : Bool). (t && closed (portAt T p .state)) && namesB (pairOf (portAt T p .control))) (lt-ltb p (T .count) (omega (arith, counted)))))
+        (λ (x : n ≤ p).
+        ap (λ (v : ℕ). eqb v 256) (lane-past p h x)
+        ∙ sym (ap (λ (t : Bool). (t && closed (portAt T p .state)) && namesB (pairOf (portAt T p .control))) (le-ltb p (T .count) (omega (arith, counted)))))
+        (side p n)))

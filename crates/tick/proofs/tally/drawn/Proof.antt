@@ -1,54 +1,41 @@
-use borrow.Author.Needs.{needs}
+-- `drawn` adds up what each port draws: the sum of the places below p.
+-- Assumes nothing.
+use mathlib.Core.Path.{_≡_, refl, sym, _∙_, ap, ap₂}
+use Prim.Native.Nat.{ℕ, _+_, _-_, _*_, _≤_}
+use native.Mathlib.Nat.{le-antisymm}
+use denote.Ref.{now}
+use Rattle.lists.specs.Total.{total, total-next}
+use Rattle.table.specs.Drawn.{draws}
+use Rattle.cells.specs.Cells.{portOf}
+use native.Mathlib.Omega.{arith}
 use Rattle.tick.proofs.tally.drawn.Statement.{statement}
 use Rattle.tick.proofs.tally.drawn.Tie as tie
-use Rattle.tick.proofs.tally.drawn.Reads as reads
-use Rattle.tick.proofs.tally.drawn.Lts as lts
-use Rattle.tick.proofs.tally.draws_at.Reads as draws-at-reads
 
 abbrev Inv-loop : tie.InvT-loop
-Inv-loop cells n sum₀ p₀ sum p = ?
+Inv-loop cells n sum₀ p₀ sum p = (p ≤ n) × (sum ≡ total p (λ q. draws (portOf cells q))) × (sum ≤ p * 65535)
 
 abbrev μ-loop : tie.MeasureT-loop
-μ-loop cells n sum₀ p₀ sum p = ?
-
--- src/tally.rt:45:5
-loop-holds : tie.Need-loop-holds Inv-loop μ-loop
-loop-holds c = search needs
-
--- src/tally.rt:46:21
-draws-at-requires : tie.Need-draws-at-requires Inv-loop μ-loop
-draws-at-requires c κs = search needs
-
--- src/tally.rt:46:15
-add-sum : tie.Need-add-sum Inv-loop μ-loop
-add-sum c = search needs
-
--- src/tally.rt:47:9
-add-p : tie.Need-add-p Inv-loop μ-loop
-add-p c = search needs
-
--- src/tally.rt:45:5
-loop-less : tie.Need-loop-less Inv-loop μ-loop
-loop-less c = search needs
-
--- src/tally.rt:45:5
-loop-again : tie.Need-loop-again Inv-loop μ-loop
-loop-again c = search needs
-
--- src/tally.rt:39:1
-returns : tie.Need-returns Inv-loop μ-loop
-returns c = search needs
+μ-loop cells n sum₀ p₀ sum p = n - p
 
 pub drawn-spec : {M : Type 1} → statement M
+unfolding total
 drawn-spec =
     tie.close
     (tie.spec
     Inv-loop
     μ-loop
-    loop-holds
-    draws-at-requires
-    add-sum
-    add-p
-    loop-less
-    loop-again
-    returns)
+    (λ c. (omega arith, refl, omega arith))
+    (λ c κs. (c .before .before .before .pre .0, omega (arith, c .before .before .before .pre .1)))
+    (λ c. omega (arith, c .draws-at .ensures .1, c .before .before .loop .inv .2, c .before .before .before .before .pre .1))
+    (λ c. omega arith)
+    (λ c. omega arith)
+    (λ c.
+    let l = c .before .before .loop in
+    (omega arith,
+    ap₂ _+_ (l .inv .1) (c .draws-at .ensures .0) ∙ sym (total-next (l .p) (λ p. draws (portOf (now (c .before .before .before .before .args .cells)) p))),
+    omega (arith, c .draws-at .ensures .1)))
+    (λ c.
+    let l = c .before .loop in
+    let s = c .before .before .before in
+    let e : l .p ≡ s .args .n = le-antisymm (l .inv .0) (c .loop-test .left) in
+    (l .inv .1 ∙ ap (λ (k : ℕ). total k (λ p. draws (portOf (now (s .args .cells)) p))) e, rw e at (l .inv .2))))

@@ -1,94 +1,54 @@
+-- `sides`: the lane has the side of each place below p.
+-- Assumes nothing.
+use mathlib.Core.Path.{_≡_, refl, sym, _∙_, ap}
+use mathlib.Core.List.{List}
+use Prim.Native.Nat.{ℕ, _+_, _-_, _≤_}
+use native.Mathlib.Nat.{le-antisymm}
+use denote.Ref.{now}
+use Rattle.lists.specs.Places.{Filled, filled-none, filled-more, filled-below}
+use Rattle.cells.specs.Cells.{portOf}
+use Rattle.tick.specs.Tally.{sideOf, sideLane}
 use borrow.Author.Needs.{needs}
+use native.Mathlib.Omega.{arith}
 use Rattle.tick.proofs.tally.sides.Statement.{statement}
 use Rattle.tick.proofs.tally.sides.Tie as tie
-use Rattle.tick.proofs.tally.sides.Reads as reads
-use Rattle.tick.proofs.tally.sides.Lts as lts
-use Rattle.tick.proofs.tally.side_of.Reads as side-of-reads
+
+abbrev at : List ℕ → ℕ → ℕ
+at cells p = sideOf (portOf cells p)
 
 abbrev Inv-loop : tie.InvT-loop
-Inv-loop cells n lane₀ p₀ lane p = ?
+Inv-loop cells n lane₀ p₀ lane p = (p ≤ n) × Filled 0 (at cells) lane₀ p lane
 
 abbrev μ-loop : tie.MeasureT-loop
-μ-loop cells n lane₀ p₀ lane p = ?
-
--- src/tally.rt:66:5
-loop-holds : tie.Need-loop-holds Inv-loop μ-loop
-loop-holds c = search needs
-
--- src/tally.rt:67:33
-add-side-of : tie.Need-add-side-of Inv-loop μ-loop
-add-side-of c = search needs
-
--- src/tally.rt:67:27
-mul-side-of : tie.Need-mul-side-of Inv-loop μ-loop
-mul-side-of c = search needs
-
--- src/tally.rt:67:27
-shared-slice-read-side-of : tie.Need-shared-slice-read-side-of Inv-loop μ-loop
-shared-slice-read-side-of c = search needs
-
--- src/tally.rt:67:47
-add-side-of-2 : tie.Need-add-side-of-2 Inv-loop μ-loop
-add-side-of-2 c = search needs
-
--- src/tally.rt:67:41
-mul-side-of-2 : tie.Need-mul-side-of-2 Inv-loop μ-loop
-mul-side-of-2 c = search needs
-
--- src/tally.rt:67:41
-shared-slice-read-side-of-2 : tie.Need-shared-slice-read-side-of-2 Inv-loop μ-loop
-shared-slice-read-side-of-2 c = search needs
-
--- src/tally.rt:67:19
-side-of-requires : tie.Need-side-of-requires Inv-loop μ-loop
-side-of-requires c κs = search needs
-
--- src/tally.rt:67:9
-mul-lane : tie.Need-mul-lane Inv-loop μ-loop
-mul-lane c = search needs
-
--- src/tally.rt:67:9
-slice-write-lane : tie.Need-slice-write-lane Inv-loop μ-loop
-slice-write-lane c = search needs
-
--- src/tally.rt:68:9
-add-p : tie.Need-add-p Inv-loop μ-loop
-add-p c = search needs
-
--- src/tally.rt:66:5
-loop-less : tie.Need-loop-less Inv-loop μ-loop
-loop-less c = search needs
-
--- src/tally.rt:66:5
-loop-again : tie.Need-loop-again Inv-loop μ-loop
-loop-again c = search needs
-
--- src/tally.rt:61:1
-same-length : tie.Need-same-length Inv-loop μ-loop
-same-length c = search needs
-
--- src/tally.rt:61:1
-returns : tie.Need-returns Inv-loop μ-loop
-returns c = search needs
+μ-loop cells n lane₀ p₀ lane p = n - p
 
 pub sides-spec : {M : Type 1} → statement M
+unfolding sideLane portOf
 sides-spec =
     tie.close
     (tie.spec
     Inv-loop
     μ-loop
-    loop-holds
-    add-side-of
-    mul-side-of
-    shared-slice-read-side-of
-    add-side-of-2
-    mul-side-of-2
-    shared-slice-read-side-of-2
-    side-of-requires
-    mul-lane
-    slice-write-lane
-    add-p
-    loop-less
-    loop-again
-    same-length
-    returns)
+    (λ c. (omega arith, filled-none _ _ _))
+    (λ c. omega (arith, c .before .before .before .before .pre .1))
+    (λ c. omega (arith, c .before .before .before .before .pre .1))
+    (λ c. omega (arith, c .before .before .before .before .before .pre .0, c .before .before .before .before .before .pre .1))
+    (λ c. omega (arith, c .before .before .before .before .before .pre .1))
+    (λ c. omega (arith, c .before .before .before .before .before .pre .1))
+    (λ c. omega (arith, c .before .before .before .before .before .before .pre .0, c .before .before .before .before .before .before .pre .1))
+    (λ c κs. search needs)
+    (λ c. omega (arith, c .before .before .before .before .before .before .before .pre .1))
+    (λ c. omega (arith, c .before .before .before .before .loop .inv .1 .long, c .before .before .before .before .before .before .before .pre .1, c .before .before .before .before .before .before .before .pre .2))
+    (λ c. omega arith)
+    (λ c. omega arith)
+    (λ c.
+    let l = c .before .before .before .before .loop in
+    let s = c .before .before .before .before .before .before .before in
+    (omega arith,
+    filled-more 0 (at (now (s .args .cells))) (now (s .args .lane)) (l .p) (l .lane) (c .side-of .result) (l .inv .1) (omega (arith, s .pre .1, s .pre .2)) (c .side-of .ensures)))
+    (λ c. c .before .loop .inv .1 .long)
+    (λ c.
+    let l = c .before .loop in
+    let s = c .before .before .before .before in
+    let e : l .p ≡ s .args .n = le-antisymm (l .inv .0) (c .loop-test .left) in
+    filled-below 0 (at (now (s .args .cells))) (now (s .args .lane)) 48 (s .args .n) (l .lane) (s .pre .2) (rw e at (l .inv .1))))
