@@ -21,7 +21,7 @@ fn port_saves(cells: &[u16], p: usize) -> bool
 }
 
 // The places past the count too: an image has one byte for each of these.
-fn imageable(cells: &[u16]) -> bool
+pub fn imageable(cells: &[u16]) -> bool
     ensures { λ r. ⌜ r ≡ imageable (now (cells .entry)) ⌝ }
 {
     if cells.len() != 728 {
