@@ -1,9 +1,10 @@
--- `ipaqsuni_save`: what was not saved is no image, or the room has another length.
+-- `ipaqsuni_save`: where nothing was saved, no image holds the cells, or the room has another length.
 -- Assumes nothing.
 use mathlib.Core.Path.{_∙_, sym}
 use denote.Ref.{now}
 use borrow.Author.Needs.{needs}
-use Rattle.ipaqsuni.proofs.Saved.{number-saved, number-room, number-cells}
+use Rattle.ipaqsuni.specs.Laws.{saves-zero}
+use Rattle.ipaqsuni.proofs.Saved.{number-room, number-cells}
 use Rattle.ipaqsuni.proofs.tables.ipaqsuni_save.Statement.{statement}
 use Rattle.ipaqsuni.proofs.tables.ipaqsuni_save.Tie as tie
 
@@ -16,7 +17,7 @@ ipaqsuni-save-spec =
     (λ c.
     let a = c .before .before .before .before .before .before .before .args in
     let told = c .before .before .before .store .ensures in
-    (sym (number-saved (now (a .cells)) (now (a .image)) (sym (told .0) ∙ c .if1 .taken)), told .1))
+    (sym (saves-zero (now (a .cells)) (now (a .image)) (sym (told .0) ∙ c .if1 .taken)), told .1))
     (λ c κs. search needs)
     (λ c. search needs)
     (λ c.
