@@ -5,3 +5,4 @@ pub mod Passes
 pub mod Settling
 pub mod Tally
 pub mod Tick
+pub mod Ticking
