@@ -33,8 +33,10 @@ Inv-loop block n lane₀ i₀ lane i = (i ≤ n) × (every i (low block) ≡ tru
 abbrev μ-loop : tie.MeasureT-loop
 μ-loop block n lane₀ i₀ lane i = n - i
 
+-- the second loop goes on with the lane that the first one left
 abbrev Inv-loop2 : tie.InvT-loop2
-Inv-loop2 block n lane₀ i₀ lane i = (i ≤ n) × (every i (low block) ≡ true) × Filled 0 (flagsOfPort block) lane₀ i lane
+Inv-loop2 block n lane₀ i₀ lane i =
+    (i ≤ n) × (every i (low block) ≡ true) × ((old : List ℕ) → Filled 0 (flagsOfPort block) old i₀ lane₀ → Filled 0 (flagsOfPort block) old i lane)
 
 abbrev μ-loop2 : tie.MeasureT-loop2
 μ-loop2 block n lane₀ i₀ lane i = n - i
@@ -48,13 +50,13 @@ one-more f i j r e q = ap (λ (k : ℕ). every k f) r ∙ every-next i f ∙ and
 
 four-pass : (f : ℕ → Bool) (i : ℕ) → every i f ≡ true → four f i ≡ true → every (i + 4) f ≡ true
 four-pass f i e q =
-    let q2 = and-left _ _ q in
-    let q1 = and-left _ _ q2 in
+    let q2 : ((f i && f (i + 1)) && f (i + 2)) ≡ true = and-left ((f i && f (i + 1)) && f (i + 2)) (f (i + 3)) q in
+    let q1 : (f i && f (i + 1)) ≡ true = and-left (f i && f (i + 1)) (f (i + 2)) q2 in
     one-more f (i + 3) (i + 4) (omega arith)
     (one-more f (i + 2) (i + 3) (omega arith)
-    (one-more f (i + 1) (i + 2) (omega arith) (one-more f i (i + 1) refl e (and-left _ _ q1)) (and-right _ _ q1))
-    (and-right _ _ q2))
-    (and-right _ _ q)
+    (one-more f (i + 1) (i + 2) (omega arith) (one-more f i (i + 1) refl e (and-left (f i) (f (i + 1)) q1)) (and-right (f i) (f (i + 1)) q1))
+    (and-right (f i && f (i + 1)) (f (i + 2)) q2))
+    (and-right ((f i && f (i + 1)) && f (i + 2)) (f (i + 3)) q)
 
 four-fail : (f : ℕ → Bool) (n i : ℕ) → i + 4 ≤ n → four f i ≡ false → every n f ≡ false
 four-fail f n i h e = go (every n f) refl
@@ -106,17 +108,17 @@ flags-into-spec =
     (omega arith,
     four-pass (low block) (l .i) (l .inv .1) (sym (c .before .before .before .four-flags .ensures .0) ∙ not-false _ (c .if1 .left)),
     filled-four block (now (s .args .lane)) (l .i) (l .lane) _ (l .inv .2) (omega (arith, s .pre .1, s .pre .2)) (c .before .before .before .four-flags .ensures .1)))
-    (λ c. c .before .loop .inv)
+    (λ c. (c .before .loop .inv .0, c .before .loop .inv .1, λ old F. F))
     (λ c κs. omega (arith, c .before .before .before .before .before .before .pre .0))
-    (λ c. c .before .before .before .loop2 .inv .2 .long)
+    (λ c. c .before .before .before .loop2 .inv .2 _ (c .before .before .before .before .before .loop .inv .2) .long)
     (λ c.
     let l = c .before .before .before .loop2 in
     let s = c .before .before .before .before .before .before .before .before in
     let block = now (s .args .block) in
-    let e : flagsFine (s .args .n) block ≡ false = fine-is (s .args .n) block ∙ every-not (s .args .n) (low block) (l .i) (c .before .before .loop2-test .taken) (le-ltb _ 64 (omega (arith, c .before .flags-at .ensures))) in
+    let e : flagsFine (s .args .n) block ≡ false = fine-is (s .args .n) block ∙ every-not (s .args .n) (low block) (l .i) (c .before .before .loop2-test .taken) (le-ltb (flagsOfPort block (l .i)) 64 (omega (arith, c .before .flags-at .ensures))) in
     (sym e, λ h. absurd (not-both _ h e)))
     (λ c. omega (arith, c .before .before .before .before .before .before .before .before .pre .1))
-    (λ c. omega (arith, c .before .before .before .loop2 .inv .2 .long, c .before .before .before .before .before .before .before .before .pre .1, c .before .before .before .before .before .before .before .before .pre .2))
+    (λ c. omega (arith, c .before .before .before .loop2 .inv .2 _ (c .before .before .before .before .before .loop .inv .2) .long, c .before .before .before .before .before .before .before .before .pre .1, c .before .before .before .before .before .before .before .before .pre .2))
     (λ c. omega arith)
     (λ c. omega arith)
     (λ c.
@@ -124,12 +126,13 @@ flags-into-spec =
     let s = c .before .before .before .before .before .before .before .before in
     let block = now (s .args .block) in
     (omega arith,
-    one-more (low block) (l .i) (l .i + 1) refl (l .inv .1) (lt-ltb _ 64 (omega (arith, c .before .flags-at .ensures))),
-    filled-more 0 (flagsOfPort block) (now (s .args .lane)) (l .i) (l .lane) _ (l .inv .2) (omega (arith, s .pre .1, s .pre .2)) (c .before .flags-at .ensures)))
-    (λ c. c .before .loop2 .inv .2 .long)
+    one-more (low block) (l .i) (l .i + 1) refl (l .inv .1) (lt-ltb (flagsOfPort block (l .i)) 64 (omega (arith, c .before .flags-at .ensures))),
+    λ old F. filled-more 0 (flagsOfPort block) old (l .i) (l .lane) _ (l .inv .2 old F) (omega (arith, F .long, c .before .before .before .before .before .loop .inv .2 .long, s .pre .1, s .pre .2)) (c .before .flags-at .ensures)))
+    (λ c. c .before .loop2 .inv .2 _ (c .before .before .before .loop .inv .2) .long)
     (λ c.
     let l = c .before .loop2 in
     let s = c .before .before .before .before .before .before in
     let e : l .i ≡ s .args .n = le-antisymm (l .inv .0) (c .loop2-test .left) in
+    let F = l .inv .2 (now (s .args .lane)) (c .before .before .before .loop .inv .2) in
     (sym (fine-is (s .args .n) (now (s .args .block)) ∙ (rw e at (l .inv .1))),
-    λ h. filled-below 0 (flagsOfPort (now (s .args .block))) (now (s .args .lane)) 48 (s .args .n) (l .lane) (s .pre .2) (rw e at (l .inv .2)))))
+    λ h. filled-below 0 (flagsOfPort (now (s .args .block))) (now (s .args .lane)) 48 (s .args .n) (l .lane) (s .pre .2) (rw e at F))))
