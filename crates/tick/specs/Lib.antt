@@ -6,3 +6,4 @@ pub mod Settling
 pub mod Tally
 pub mod Tick
 pub mod Ticking
+pub mod Wells
