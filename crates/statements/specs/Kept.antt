@@ -25,7 +25,7 @@ use Rattle.tick.specs.Tick.{movedAt}
 use Rattle.table.specs.Form.{noPort, portAt, withPort}
 use Rattle.table.specs.Well.{Well, well-of, WellTable, table-of, table-test}
 use Rattle.table.specs.WellMade.{illPort, wellPort, wellMade}
-use Rattle.statements.specs.Well.{digest-well, step-well}
+use Rattle.tick.specs.Wells.{digest-well, step-well}
 
 -- ---- the tick
 pub tick-well : (t : Table) (block : List ℕ) (supply : Power) → wellMade t ≡ true → atMost supply highestSupply ≡ true → wellMade (tableAfter t (movedAt t block) supply) ≡ true

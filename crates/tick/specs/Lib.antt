@@ -5,3 +5,5 @@ pub mod Passes
 pub mod Settling
 pub mod Tally
 pub mod Tick
+pub mod Ticking
+pub mod Wells

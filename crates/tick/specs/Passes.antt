@@ -2,12 +2,12 @@
 -- Assumes nothing.
 use Prim.Native.Nat.{ℕ, _+_, _*_, _<_}
 use mathlib.Core.Path.{_≡_}
-use mathlib.Core.Bool.{Bool, true, false, cond, not}
+use mathlib.Core.Bool.{Bool, true, false, cond, not, _||_}
 use mathlib.Core.List.{List}
 use lib.Dec.{ltb, leb, eqb}
 use lib.ListN.{length, getD, replicate}
 use Rattle.lists.specs.Bits.{one}
-use Rattle.lists.specs.Every.{every}
+use Rattle.lists.specs.Every.{every, someBelow}
 use Rattle.lists.specs.Places.{tabulate}
 use Rattle.lists.specs.Total.{total}
 use Rattle.power.specs.Power.{zeroPower, forced, tenths}
@@ -21,8 +21,10 @@ use Rattle.settling.specs.Claim.{rankIn, settledAs}
 use Rattle.share.specs.Given.{rankOf, demandOf}
 use Rattle.share.specs.Share.{noClaim, keeps}
 use Rattle.share.specs.declared.Claims.{Claims}
+use Rattle.table.specs.Drawn.{draws}
 use Rattle.table.specs.declared.form.Closed.{Closed}
-use Rattle.cells.specs.Cells.{countCell, portOf, tableOf, cellsWith}
+use Rattle.cells.specs.Cells.{countCell, portOf, tableOf, written, cellsWith}
+use Rattle.quick.specs.Sweep.{sweptCells, sweptLane, sweptLeft}
 use Rattle.well.specs.Judged.{wellCells}
 use Rattle.boards.specs.Masks.{answered}
 use Rattle.boards.specs.Sharing.{tableAfter}
@@ -108,12 +110,32 @@ sharedBy n lane drawn supply l p =
 
 -- ---- the part that cannot refuse
 
--- what the refusals leave to it
-pub record Ready (l block : List ℕ) (supply : ℕ) (lane : List ℕ) : Type 0 where
+-- what the refusals leave to it: the cells, the block and a lane of flags
+pub record Ready (l block lane : List ℕ) : Type 0 where
   pub well : wellCells l ≡ true
   pub sized : length block ≡ 14 * countCell l
   pub fine : flagsFine (countCell l) block ≡ true
   pub flags : lane ≡ flagLane (countCell l) block (replicate 48 0)
+
+-- the cells, the lane and whether a port asks, after the quick pass and the whole steps of the ports that it marked
+unfoldable pub movedOn : List ℕ → List ℕ → List ℕ → List ℕ
+movedOn l block lane =
+    cond (sweptLeft l lane) (written (countCell l) (steppedPort (sweptLane l lane) block (sweptCells l lane)) (sweptCells l lane)) (sweptCells l lane)
+
+unfoldable pub askedOn : List ℕ → List ℕ → List ℕ → List ℕ
+askedOn l block lane = cond (sweptLeft l lane) (steppedLane (countCell l) block (sweptCells l lane) (sweptLane l lane)) (sweptLane l lane)
+
+unfoldable pub someAsk : List ℕ → List ℕ → List ℕ → Bool
+someAsk l block lane =
+    cond (sweptLeft l lane) (someBelow (countCell l) (λ p. markedMove (getD (sweptLane l lane) p 0) block (sweptCells l lane) p .asks)) false
+
+-- what the closed ports draw
+unfoldable pub drawnOn : ℕ → List ℕ → ℕ
+drawnOn n l = total n (λ p. draws (portOf l p))
+
+-- the cells after the sharing: it is left out where no port asks and what is closed fits
+unfoldable pub sharedOn : ℕ → List ℕ → Bool → ℕ → List ℕ → List ℕ
+sharedOn n lane asks supply l = cond (asks || ltb supply (drawnOn n l)) (written n (sharedBy n lane (drawnOn n l) supply l) l) l
 
 unfoldable pub movedCells : List ℕ → List ℕ → ℕ → List ℕ
 movedCells l block supply = cellsWith (tableAfter (tableOf l) (movedAt (tableOf l) block) (tenths supply)) l

@@ -1,6 +1,6 @@
 -- What a pass over the cells counts of the closed ports: a number for each side, eight of them weighed at once, and the masks that they are.
 -- Assumes nothing.
-use Prim.Native.Nat.{ℕ, zero, suc, _+_, _*_, _/_, _%_, _≤_, _<_, _^_}
+use Prim.Native.Nat.{ℕ, _+_, _*_, _/_, _%_, _≤_, _<_}
 use mathlib.Core.Path.{_≡_, refl, sym, _∙_, ap, ap₂}
 use mathlib.Core.Bool.{Bool, true, false, cond, _&&_}
 use mathlib.Core.List.{List}
@@ -12,7 +12,7 @@ use lib.Dec.{eqb, ltb}
 use lib.ListN.{getD}
 use borrow.Author.Tests.{lt-ltb, le-ltb, eqb-true}
 use Rattle.lists.specs.Bits.{one, one-small, place}
-use Rattle.lists.specs.Count.{mask, mask-below, mask-join}
+use Rattle.lists.specs.Count.{mask, mask-below}
 use Rattle.lists.specs.Places.{side, tabulate, getD-tabulate}
 use Rattle.lists.specs.Total.{total, total-cong}
 use Rattle.words.specs.Control.{pairOf}
@@ -22,8 +22,7 @@ use Rattle.port.specs.States.{closed}
 use Rattle.port.specs.declared.form.Port.{Port}
 use Rattle.port.specs.declared.form.State.{State}
 use Rattle.table.specs.Drawn.{closedAt}
-use Rattle.table.specs.Form.{places, portAt}
-use Rattle.table.specs.declared.form.Closed.{Closed}
+use Rattle.table.specs.Form.{portAt}
 use Rattle.table.specs.declared.form.Closed.the-variants.{Ports}
 use Rattle.table.specs.declared.form.Table.{Table}
 use Rattle.boards.specs.Masks.{namesA, namesB, maskA, maskB, answered}
@@ -162,3 +161,8 @@ module _ (n : ℕ) (l lane₀ : List ℕ) (clear : (p : ℕ) → n ≤ p → p <
         ap (λ (v : ℕ). eqb v 256) (lane-past p h x)
         ∙ sym (ap (λ (t : Bool). (t && closed (portAt T p .state)) && namesB (pairOf (portAt T p .control))) (le-ltb p (T .count) (omega (arith, counted)))))
         (side p n)))
+
+    -- so they are what a tick answers of it
+    pub side-lane-answer : Ports (mask 48 (isA (sideLane n l lane₀))) (mask 48 (isB (sideLane n l lane₀))) (ones (mask 48 (isA (sideLane n l lane₀))) + ones (mask 48 (isB (sideLane n l lane₀)))) ≡ answered T .answer
+    unfolding answered
+    side-lane-answer = ap₂ (λ (x y : ℕ). Ports x y (ones x + ones y)) side-lane-a side-lane-b

@@ -18,13 +18,14 @@ use table::form::Closed;
 use well::well_head;
 use well::well_made;
 ghost use mathlib.Core.Path.{_≡_};
-ghost use Prim.Native.Nat.{_*_, _≤_};
-ghost use lib.ListN.{length, replicate};
+ghost use Prim.Native.Nat.{_≤_};
+ghost use lib.ListN.{length};
 ghost use Rattle.cells.specs.Cells.{countCell};
+ghost use Rattle.cells.specs.Laws.{Holds};
 ghost use Rattle.cells.specs.Lent.{cellsTicked};
 ghost use Rattle.well.specs.Judged.{wellCells};
 ghost use Rattle.tick.specs.OnCells.{tickOn};
-ghost use Rattle.tick.specs.Passes.{refusalOf, flagLane, Ready, movedCells, movedAnswer};
+ghost use Rattle.tick.specs.Passes.{Classes, refusalOf, flagLane, Ready, someAsk, movedOn, askedOn, sharedOn, movedCells, movedAnswer};
 
 // The number of the refusal, 0 if nothing is refused: then the lane has the flags of every port. They are read before the ports are
 // tested, though looked at after: what was just written would have to be waited for.
@@ -51,21 +52,39 @@ fn refusal(cells: &[u16], block: &[u8], figure: u64, lane: &mut [u16]) -> u8
     if clean { 0 } else { 3 }
 }
 
-// Every port moves, the supply is shared, and its figure is stored. The lane has the flags of every port at first.
-fn moved(cells: &mut [u16], block: &[u8], supply: u16, lane: &mut [u16]) -> Closed
-    requires { ⌜ Ready (now cells) (now block) supply (now lane) ⌝ }
-    ensures { λ r. ⌜ r ≡ movedAnswer (now (cells .entry)) (now (block .entry)) supply ⌝ }
-    ensures { λ _. ⌜ now (cells .exit) ≡ movedCells (now (cells .entry)) (now (block .entry)) supply ⌝ }
+// Every port moves. The lane has the flags of every port at first, and a number other than 0 for each that asks then. Does one?
+fn move_all(cells: &mut [u16], n: usize, block: &[u8], lane: &mut [u16]) -> bool
+    requires { ⌜ Ready (now cells) (now block) (now lane) × (n ≡ countCell (now cells)) ⌝ }
+    ensures { λ r. ⌜ r ≡ someAsk (now (cells .entry)) (now (block .entry)) (now (lane .entry)) ⌝ }
+    ensures { λ _. ⌜ now (cells .exit) ≡ movedOn (now (cells .entry)) (now (block .entry)) (now (lane .entry)) ⌝ }
+    ensures { λ _. ⌜ now (lane .exit) ≡ askedOn (now (cells .entry)) (now (block .entry)) (now (lane .entry)) ⌝ }
 {
-    let n = cells[0] as usize;
-    let mut asks = sweep(cells, lane);
-    if asks {
-        asks = steps(cells, n, block, lane);
+    if !sweep(cells, lane) {
+        return false;
     }
+    steps(cells, n, block, lane)
+}
+
+// Where no port asks and what is closed fits, nothing has to be shared.
+fn share_all(cells: &mut [u16], n: usize, lane: &[u16], asks: bool, supply: u16)
+    requires { ⌜ (length (now cells) ≡ 728) × (n ≤ 48) × (length (now lane) ≡ 48) × Holds n (now cells) × Classes n (now cells) ⌝ }
+    ensures { λ _. ⌜ now (cells .exit) ≡ sharedOn n (now (lane .entry)) asks supply (now (cells .entry)) ⌝ }
+{
     let drawn = drawn(cells, n);
     if asks | ((supply as u32) < drawn) {
         share_out(cells, n, lane, drawn, supply);
     }
+}
+
+// Every port moves, the supply is shared, and its figure is stored.
+fn moved(cells: &mut [u16], block: &[u8], supply: u16, lane: &mut [u16]) -> Closed
+    requires { ⌜ Ready (now cells) (now block) (now lane) ⌝ }
+    ensures { λ r. ⌜ r ≡ movedAnswer (now (cells .entry)) (now (block .entry)) supply ⌝ }
+    ensures { λ _. ⌜ now (cells .exit) ≡ movedCells (now (cells .entry)) (now (block .entry)) supply ⌝ }
+{
+    let n = cells[0] as usize;
+    let asks = move_all(cells, n, block, lane);
+    share_all(cells, n, lane, asks, supply);
     cells[1] = supply;
     sides(cells, n, lane);
     masks(lane)

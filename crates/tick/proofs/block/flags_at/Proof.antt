@@ -1,10 +1,10 @@
 -- `flags_at` is the flags of `sampleAt`: two bytes are each below 256, so nothing wraps.
 -- Assumes nothing.
 use Prim.Native.Nat.{ℕ, _+_, _*_}
+use native.Mathlib.Omega.{arith}
+use borrow.Author.Needs.{needs}
 use Rattle.reading.specs.Sample.{wordAt, sampleAt}
 use Rattle.tick.specs.Passes.{flagsOfPort}
-use borrow.Author.Needs.{needs}
-use native.Mathlib.Omega.{arith}
 use Rattle.tick.proofs.block.flags_at.Statement.{statement}
 use Rattle.tick.proofs.block.flags_at.Tie as tie
 

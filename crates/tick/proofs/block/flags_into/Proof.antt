@@ -1,12 +1,13 @@
 -- `flags_into`: the flags below i are fine and stand in the lane; a flag that is not fine is enough.
 -- Assumes nothing.
+use Prim.Native.Nat.{ℕ, _+_, _-_, _≤_, _<_}
 use mathlib.Core.Path.{_≡_, refl, sym, _∙_, ap}
 use mathlib.Core.Bool.{Bool, true, false, not, _&&_}
 use mathlib.Core.List.{List}
-use Prim.Native.Nat.{ℕ, _+_, _-_, _*_, _≤_, _<_}
 use native.Mathlib.Nat.{le-antisymm}
+use native.Mathlib.Omega.{arith}
 use lib.Dec.{ltb}
-use lib.ListN.{length, getD, set}
+use lib.ListN.{length, set}
 use borrow.Author.Tests.{lt-ltb, le-ltb, not-true, not-false}
 use denote.Ref.{now}
 use Rattle.lists.specs.Bits.{above}
@@ -15,7 +16,6 @@ use Rattle.lists.specs.Places.{Filled, filled-none, filled-more, filled-below}
 use Rattle.lists.specs.Tests.{and-left, and-right, and-both, not-both, not-leb}
 use Rattle.reading.specs.Sample.{reservedFlags}
 use Rattle.tick.specs.Passes.{flagsOfPort, flagsFine, flagLane}
-use native.Mathlib.Omega.{arith}
 use Rattle.tick.proofs.block.flags_into.Statement.{statement}
 use Rattle.tick.proofs.block.flags_into.Tie as tie
 
@@ -33,8 +33,10 @@ Inv-loop block n lane₀ i₀ lane i = (i ≤ n) × (every i (low block) ≡ tru
 abbrev μ-loop : tie.MeasureT-loop
 μ-loop block n lane₀ i₀ lane i = n - i
 
+-- the second loop goes on with the lane that the first one left
 abbrev Inv-loop2 : tie.InvT-loop2
-Inv-loop2 block n lane₀ i₀ lane i = (i ≤ n) × (every i (low block) ≡ true) × Filled 0 (flagsOfPort block) lane₀ i lane
+Inv-loop2 block n lane₀ i₀ lane i =
+    (i ≤ n) × (every i (low block) ≡ true) × ((old : List ℕ) → Filled 0 (flagsOfPort block) old i₀ lane₀ → Filled 0 (flagsOfPort block) old i lane)
 
 abbrev μ-loop2 : tie.MeasureT-loop2
 μ-loop2 block n lane₀ i₀ lane i = n - i
@@ -46,23 +48,24 @@ four f i = ((f i && f (i + 1)) && f (i + 2)) && f (i + 3)
 one-more : (f : ℕ → Bool) (i j : ℕ) → j ≡ i + 1 → every i f ≡ true → f i ≡ true → every j f ≡ true
 one-more f i j r e q = ap (λ (k : ℕ). every k f) r ∙ every-next i f ∙ and-both _ _ e q
 
-four-pass : (f : ℕ → Bool) (i : ℕ) → every i f ≡ true → four f i ≡ true → every (i + 4) f ≡ true
-four-pass f i e q =
-    let q2 = and-left _ _ q in
-    let q1 = and-left _ _ q2 in
+four-pass : (f : ℕ → Bool) (i : ℕ) (r : Bool) → every i f ≡ true → r ≡ four f i → r ≡ true → every (i + 4) f ≡ true
+four-pass f i r e is holds =
+    let q : four f i ≡ true = sym is ∙ holds in
+    let q2 : ((f i && f (i + 1)) && f (i + 2)) ≡ true = and-left ((f i && f (i + 1)) && f (i + 2)) (f (i + 3)) q in
+    let q1 : (f i && f (i + 1)) ≡ true = and-left (f i && f (i + 1)) (f (i + 2)) q2 in
     one-more f (i + 3) (i + 4) (omega arith)
     (one-more f (i + 2) (i + 3) (omega arith)
-    (one-more f (i + 1) (i + 2) (omega arith) (one-more f i (i + 1) refl e (and-left _ _ q1)) (and-right _ _ q1))
-    (and-right _ _ q2))
-    (and-right _ _ q)
+    (one-more f (i + 1) (i + 2) (omega arith) (one-more f i (i + 1) refl e (and-left (f i) (f (i + 1)) q1)) (and-right (f i) (f (i + 1)) q1))
+    (and-right (f i && f (i + 1)) (f (i + 2)) q2))
+    (and-right ((f i && f (i + 1)) && f (i + 2)) (f (i + 3)) q)
 
-four-fail : (f : ℕ → Bool) (n i : ℕ) → i + 4 ≤ n → four f i ≡ false → every n f ≡ false
-four-fail f n i h e = go (every n f) refl
+four-fail : (f : ℕ → Bool) (n i : ℕ) (r : Bool) → i + 4 ≤ n → r ≡ four f i → r ≡ false → every n f ≡ false
+four-fail f n i r h is fails = go (every n f) refl
   where
     go : (t : Bool) → every n f ≡ t → t ≡ false
     go true q =
         let z : four f i ≡ true = simp (every-at n f q i (omega arith), every-at n f q (i + 1) (omega arith), every-at n f q (i + 2) (omega arith), every-at n f q (i + 3) (omega arith)) in
-        absurd (not-both (four f i) z e)
+        absurd (not-both r (is ∙ z) fails)
     go false q = refl
 
 module _ (block lane₀ : List ℕ) where
@@ -95,41 +98,45 @@ flags-into-spec =
     let l = c .before .before .before .before .before .before .loop in
     let s = c .before .before .before .before .before .before .before .before .before in
     let block = now (s .args .block) in
-    let e : flagsFine (s .args .n) block ≡ false = fine-is (s .args .n) block ∙ four-fail (low block) (s .args .n) (l .i) (c .before .before .before .before .before .loop-test .taken) (sym (c .before .before .before .four-flags .ensures .0) ∙ not-true _ (c .if1 .taken)) in
+    let e : flagsFine (s .args .n) block ≡ false = fine-is (s .args .n) block ∙ four-fail (low block) (s .args .n) (l .i) _ (c .before .before .before .before .before .loop-test .taken) (c .before .before .before .four-flags .ensures .0) (not-true _ (c .if1 .taken)) in
     (sym e, λ h. absurd (not-both _ h e)))
     (λ c. omega arith)
     (λ c. omega arith)
     (λ c.
     let l = c .before .before .before .before .before .before .loop in
     let s = c .before .before .before .before .before .before .before .before .before in
-    let block = now (s .args .block) in
-    (omega arith,
-    four-pass (low block) (l .i) (l .inv .1) (sym (c .before .before .before .four-flags .ensures .0) ∙ not-false _ (c .if1 .left)),
-    filled-four block (now (s .args .lane)) (l .i) (l .lane) _ (l .inv .2) (omega (arith, s .pre .1, s .pre .2)) (c .before .before .before .four-flags .ensures .1)))
-    (λ c. c .before .loop .inv)
+    let block = now (s .args .block) in (
+      omega arith,
+      four-pass (low block) (l .i) _ (l .inv .1) (c .before .before .before .four-flags .ensures .0) (not-false _ (c .if1 .left)),
+      filled-four block (now (s .args .lane)) (l .i) (l .lane) _ (l .inv .2) (omega (arith, s .pre .1, s .pre .2)) (c .before .before .before .four-flags .ensures .1),
+    ))
+    (λ c. (c .before .loop .inv .0, c .before .loop .inv .1, λ old F. F))
     (λ c κs. omega (arith, c .before .before .before .before .before .before .pre .0))
-    (λ c. c .before .before .before .loop2 .inv .2 .long)
+    (λ c. c .before .before .before .loop2 .inv .2 _ (c .before .before .before .before .before .loop .inv .2) .long)
     (λ c.
     let l = c .before .before .before .loop2 in
     let s = c .before .before .before .before .before .before .before .before in
     let block = now (s .args .block) in
-    let e : flagsFine (s .args .n) block ≡ false = fine-is (s .args .n) block ∙ every-not (s .args .n) (low block) (l .i) (c .before .before .loop2-test .taken) (le-ltb _ 64 (omega (arith, c .before .flags-at .ensures))) in
+    let e : flagsFine (s .args .n) block ≡ false = fine-is (s .args .n) block ∙ every-not (s .args .n) (low block) (l .i) (c .before .before .loop2-test .taken) (le-ltb (flagsOfPort block (l .i)) 64 (omega (arith, c .before .flags-at .ensures))) in
     (sym e, λ h. absurd (not-both _ h e)))
     (λ c. omega (arith, c .before .before .before .before .before .before .before .before .pre .1))
-    (λ c. omega (arith, c .before .before .before .loop2 .inv .2 .long, c .before .before .before .before .before .before .before .before .pre .1, c .before .before .before .before .before .before .before .before .pre .2))
+    (λ c. omega (arith, c .before .before .before .loop2 .inv .2 _ (c .before .before .before .before .before .loop .inv .2) .long, c .before .before .before .before .before .before .before .before .pre .1, c .before .before .before .before .before .before .before .before .pre .2))
     (λ c. omega arith)
     (λ c. omega arith)
     (λ c.
     let l = c .before .before .before .loop2 in
     let s = c .before .before .before .before .before .before .before .before in
-    let block = now (s .args .block) in
-    (omega arith,
-    one-more (low block) (l .i) (l .i + 1) refl (l .inv .1) (lt-ltb _ 64 (omega (arith, c .before .flags-at .ensures))),
-    filled-more 0 (flagsOfPort block) (now (s .args .lane)) (l .i) (l .lane) _ (l .inv .2) (omega (arith, s .pre .1, s .pre .2)) (c .before .flags-at .ensures)))
-    (λ c. c .before .loop2 .inv .2 .long)
+    let block = now (s .args .block) in (
+      omega arith,
+      one-more (low block) (l .i) (l .i + 1) refl (l .inv .1) (lt-ltb (flagsOfPort block (l .i)) 64 (omega (arith, c .before .flags-at .ensures))),
+      λ old F. filled-more 0 (flagsOfPort block) old (l .i) (l .lane) _ (l .inv .2 old F) (omega (arith, F .long, c .before .before .before .before .before .loop .inv .2 .long, s .pre .1, s .pre .2)) (c .before .flags-at .ensures),
+    ))
+    (λ c. c .before .loop2 .inv .2 _ (c .before .before .before .loop .inv .2) .long)
     (λ c.
     let l = c .before .loop2 in
     let s = c .before .before .before .before .before .before in
     let e : l .i ≡ s .args .n = le-antisymm (l .inv .0) (c .loop2-test .left) in
-    (sym (fine-is (s .args .n) (now (s .args .block)) ∙ (rw e at (l .inv .1))),
-    λ h. filled-below 0 (flagsOfPort (now (s .args .block))) (now (s .args .lane)) 48 (s .args .n) (l .lane) (s .pre .2) (rw e at (l .inv .2)))))
+    let F = l .inv .2 (now (s .args .lane)) (c .before .before .before .loop .inv .2) in (
+      sym (fine-is (s .args .n) (now (s .args .block)) ∙ (rw e at (l .inv .1))),
+      λ h. filled-below 0 (flagsOfPort (now (s .args .block))) (now (s .args .lane)) 48 (s .args .n) (l .lane) (s .pre .2) (rw e at F),
+    )))

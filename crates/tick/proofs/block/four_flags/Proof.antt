@@ -1,8 +1,8 @@
 -- `four_flags` puts the four flags into the lane, and tests each.
 -- Assumes nothing.
+use native.Mathlib.Omega.{arith}
 use lib.ListN.{length-set}
 use borrow.Author.Needs.{needs}
-use native.Mathlib.Omega.{arith}
 use Rattle.tick.proofs.block.four_flags.Statement.{statement}
 use Rattle.tick.proofs.block.four_flags.Tie as tie
 

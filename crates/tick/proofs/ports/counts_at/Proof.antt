@@ -1,8 +1,8 @@
 -- `counts_at` is `countsOf`: a cell for each counter.
 -- Assumes nothing.
 use mathlib.Core.Path.{refl}
-use Rattle.cells.specs.Cells.{countsOf}
 use borrow.Author.Needs.{needs}
+use Rattle.cells.specs.Cells.{countsOf}
 use Rattle.tick.proofs.ports.counts_at.Statement.{statement}
 use Rattle.tick.proofs.ports.counts_at.Tie as tie
 

@@ -1,7 +1,7 @@
 -- `port_at` is `portOf`: each field from its cell.
 -- Assumes nothing.
-use Rattle.cells.specs.Cells.{portOf}
 use borrow.Author.Needs.{needs}
+use Rattle.cells.specs.Cells.{portOf}
 use Rattle.tick.proofs.ports.port_at.Statement.{statement}
 use Rattle.tick.proofs.ports.port_at.Tie as tie
 

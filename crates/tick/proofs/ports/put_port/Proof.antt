@@ -1,9 +1,9 @@
 -- `put_port` writes the twelve fields, one after the other.
 -- Assumes nothing.
-use lib.ListN.{length-set}
-use Rattle.cells.specs.Writes.{withPortCells, writes}
-use borrow.Author.Needs.{needs}
 use native.Mathlib.Omega.{arith}
+use lib.ListN.{length-set}
+use borrow.Author.Needs.{needs}
+use Rattle.cells.specs.Writes.{withPortCells, writes}
 use Rattle.tick.proofs.ports.put_port.Statement.{statement}
 use Rattle.tick.proofs.ports.put_port.Tie as tie
 

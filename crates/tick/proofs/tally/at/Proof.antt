@@ -1,8 +1,8 @@
 -- `at` reads the lane; a side is at most 256.
 -- Assumes nothing.
 use mathlib.Core.Path.{refl}
-use Rattle.tick.specs.Tally.{side-small}
 use borrow.Author.Needs.{needs}
+use Rattle.tick.specs.Tally.{side-small}
 use Rattle.tick.proofs.tally.at.Statement.{statement}
 use Rattle.tick.proofs.tally.at.Tie as tie
 

@@ -1,13 +1,13 @@
 -- `drawn` adds up what each port draws: the sum of the places below p.
 -- Assumes nothing.
-use mathlib.Core.Path.{_≡_, refl, sym, _∙_, ap, ap₂}
 use Prim.Native.Nat.{ℕ, _+_, _-_, _*_, _≤_}
+use mathlib.Core.Path.{_≡_, refl, sym, _∙_, ap, ap₂}
 use native.Mathlib.Nat.{le-antisymm}
+use native.Mathlib.Omega.{arith}
 use denote.Ref.{now}
 use Rattle.lists.specs.Total.{total, total-next}
 use Rattle.table.specs.Drawn.{draws}
 use Rattle.cells.specs.Cells.{portOf}
-use native.Mathlib.Omega.{arith}
 use Rattle.tick.proofs.tally.drawn.Statement.{statement}
 use Rattle.tick.proofs.tally.drawn.Tie as tie
 
@@ -30,10 +30,11 @@ drawn-spec =
     (λ c. omega arith)
     (λ c. omega arith)
     (λ c.
-    let l = c .before .before .loop in
-    (omega arith,
-    ap₂ _+_ (l .inv .1) (c .draws-at .ensures .0) ∙ sym (total-next (l .p) (λ p. draws (portOf (now (c .before .before .before .before .args .cells)) p))),
-    omega (arith, c .draws-at .ensures .1)))
+    let l = c .before .before .loop in (
+      omega arith,
+      ap₂ _+_ (l .inv .1) (c .draws-at .ensures .0) ∙ sym (total-next (l .p) (λ p. draws (portOf (now (c .before .before .before .before .args .cells)) p))),
+      omega (arith, c .draws-at .ensures .1),
+    ))
     (λ c.
     let l = c .before .loop in
     let s = c .before .before .before in

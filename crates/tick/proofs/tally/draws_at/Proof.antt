@@ -1,8 +1,8 @@
 -- `draws_at` is `draws`: the demand of a closed port.
 -- Assumes nothing.
+use borrow.Author.Needs.{needs}
 use Rattle.table.specs.Drawn.{draws}
 use Rattle.cells.specs.Cells.{portOf}
-use borrow.Author.Needs.{needs}
 use Rattle.tick.proofs.tally.draws_at.Statement.{statement}
 use Rattle.tick.proofs.tally.draws_at.Tie as tie
 

@@ -1,7 +1,7 @@
 -- `eight` is `weighed`: eight sides, the largest 256 * 255, fit 16 bits.
 -- Assumes nothing.
-use Rattle.tick.specs.Tally.{weighed}
 use borrow.Author.Needs.{needs}
+use Rattle.tick.specs.Tally.{weighed}
 use Rattle.tick.proofs.tally.eight.Statement.{statement}
 use Rattle.tick.proofs.tally.eight.Tie as tie
 

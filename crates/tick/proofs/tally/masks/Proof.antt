@@ -1,16 +1,16 @@
 -- `masks`: the masks of the places below 8 k, eight places at a turn.
 -- Assumes nothing.
+use Prim.Native.Nat.{ℕ, _+_, _-_, _*_, _/_, _%_, _^_, _≤_, _<_}
 use mathlib.Core.Path.{_≡_, refl, sym, _∙_, ap, ap₂}
 use mathlib.Core.Bool.{Bool}
-use Prim.Native.Nat.{ℕ, _+_, _-_, _*_, _/_, _%_, _^_, _≤_, _<_}
 use native.Mathlib.Nat.{le-antisymm, le-trans}
+use native.Mathlib.Omega.{arith}
 use lib.Count.{ones, ones-le}
 use denote.Ref.{now}
 use Rattle.lists.specs.Count.{mask, mask-below, mask-join}
 use Rattle.lists.specs.Total.{total}
 use Rattle.table.specs.declared.form.Closed.the-variants.{Ports}
-use Rattle.tick.specs.Tally.{weighed, isA, isB, weighed-low, weighed-high}
-use native.Mathlib.Omega.{arith}
+use Rattle.tick.specs.Tally.{isA, isB, weighed-low, weighed-high}
 use Rattle.tick.proofs.tally.masks.Statement.{statement}
 use Rattle.tick.proofs.tally.masks.Tie as tie
 
@@ -42,25 +42,27 @@ masks-spec =
     (λ c. (omega arith, refl, refl))
     (λ c. omega arith)
     (λ c κs. (c .before .before .before .pre .0, omega arith, c .before .before .before .pre .1))
-    (λ c κs. (below _ _ _ (c .before .before .loop .inv .1), omega arith, omega arith))
+    (λ c κs. (below _ _ (isA (now (c .before .before .before .before .args .lane))) (c .before .before .loop .inv .1), omega arith, omega arith))
     (λ c κs.
     let l = c .before .before .before .loop in
     let s = c .before .before .before .before .before in
     let lane = now (s .args .lane) in
-    (below _ _ _ (l .inv .2), omega (arith, c .before .eight .ensures, weighed-high lane (8 * l .k) (s .pre .1) (omega arith), mask-below 8 (λ j. isB lane (8 * l .k + j))), omega arith))
+    (below _ _ (isB lane) (l .inv .2), omega (arith, c .before .eight .ensures, weighed-high lane (8 * l .k) (s .pre .1) (omega arith), mask-below 8 (λ j. isB lane (8 * l .k + j))), omega arith))
     (λ c. omega arith)
     (λ c. omega arith)
     (λ c.
     let l = c .before .before .before .before .loop in
     let s = c .before .before .before .before .before .before in
     let lane = now (s .args .lane) in
-    let w = c .before .before .eight .ensures in
-    (omega arith,
-    more (isA lane) (l .k) (l .a) _ _ (l .inv .1) (ap (λ (x : ℕ). x % 256) w ∙ weighed-low lane (8 * l .k) (s .pre .1) (omega arith)) (c .before .placed .ensures),
-    more (isB lane) (l .k) (l .b) _ _ (l .inv .2) (ap (λ (x : ℕ). x / 256) w ∙ weighed-high lane (8 * l .k) (s .pre .1) (omega arith)) (c .placed2 .ensures)))
+    let w = c .before .before .eight .ensures in (
+      omega arith,
+      more (isA lane) (l .k) (l .a) _ _ (l .inv .1) (ap (λ (x : ℕ). x % 256) w ∙ weighed-low lane (8 * l .k) (s .pre .1) (omega arith)) (c .before .placed .ensures),
+      more (isB lane) (l .k) (l .b) _ _ (l .inv .2) (ap (λ (x : ℕ). x / 256) w ∙ weighed-high lane (8 * l .k) (s .pre .1) (omega arith)) (c .placed2 .ensures),
+    ))
     (λ c.
     let l = c .before .loop in
-    omega (arith, few _ _ _ (l .inv .1) (l .inv .0), few _ _ _ (l .inv .2) (l .inv .0)))
+    let lane = now (c .before .before .before .args .lane) in
+    omega (arith, few (l .k) (l .a) (isA lane) (l .inv .1) (l .inv .0), few (l .k) (l .b) (isB lane) (l .inv .2) (l .inv .0)))
     (λ c.
     let l = c .before .loop in
     let e : l .k ≡ 6 = le-antisymm (l .inv .0) (c .loop-test .left) in

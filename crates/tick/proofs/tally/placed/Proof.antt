@@ -1,11 +1,11 @@
 -- `placed` adds a byte above all that the mask has: a byte below bit 48 does not leave 64 bits.
 -- Assumes nothing.
-use mathlib.Core.Path.{_≡_}
 use Prim.Native.Nat.{ℕ, _+_, _*_, _%_, _^_, _≤_, _<_}
-use lib.Pow.{shl-exact, shl-lt, pow-mono}
+use mathlib.Core.Path.{_≡_}
 use native.Mathlib.Nat.{lt-of-lt-of-le}
-use borrow.Author.Needs.{needs}
 use native.Mathlib.Omega.{arith}
+use lib.Pow.{shl-exact, shl-lt, pow-mono}
+use borrow.Author.Needs.{needs}
 use Rattle.tick.proofs.tally.placed.Statement.{statement}
 use Rattle.tick.proofs.tally.placed.Tie as tie
 

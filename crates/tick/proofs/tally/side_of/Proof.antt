@@ -1,20 +1,20 @@
 -- `side_of` is `sideIn`: two bits of the control word name the pair.
 -- Assumes nothing.
+use Prim.Native.Nat.{ℕ, _+_, _*_, _/_, _%_, _<_}
 use mathlib.Core.Path.{_≡_, refl}
 use mathlib.Core.Bool.{Bool, true, false, cond, _&&_}
-use Prim.Native.Nat.{ℕ, _+_, _*_, _/_, _%_, _<_}
+use native.Mathlib.Omega.{arith}
 use lib.Dec.{eqb}
+use borrow.Author.Needs.{needs}
 use Rattle.lists.specs.Bits.{field, choose, one}
 use Rattle.lists.specs.Places.{tabulate, tabulate-at}
 use Rattle.words.specs.Control.{pairOf}
 use Rattle.words.specs.declared.control.Pair.the-variants.{Neither, A, B, Both}
-use Rattle.boards.specs.Masks.{namesA, namesB}
-use Rattle.cells.specs.Codes.{stateOf}
 use Rattle.port.specs.States.{closed}
 use Rattle.port.specs.declared.form.State.{State}
+use Rattle.boards.specs.Masks.{namesA, namesB}
+use Rattle.cells.specs.Codes.{stateOf}
 use Rattle.tick.specs.Tally.{sideIn}
-use borrow.Author.Needs.{needs}
-use native.Mathlib.Omega.{arith}
 use Rattle.tick.proofs.tally.side_of.Statement.{statement}
 use Rattle.tick.proofs.tally.side_of.Tie as tie
 

@@ -1,15 +1,15 @@
 -- `sides`: the lane has the side of each place below p.
 -- Assumes nothing.
-use mathlib.Core.Path.{_≡_, refl, sym, _∙_, ap}
+use Prim.Native.Nat.{ℕ, _-_, _≤_}
+use mathlib.Core.Path.{_≡_}
 use mathlib.Core.List.{List}
-use Prim.Native.Nat.{ℕ, _+_, _-_, _≤_}
 use native.Mathlib.Nat.{le-antisymm}
+use native.Mathlib.Omega.{arith}
+use borrow.Author.Needs.{needs}
 use denote.Ref.{now}
 use Rattle.lists.specs.Places.{Filled, filled-none, filled-more, filled-below}
 use Rattle.cells.specs.Cells.{portOf}
 use Rattle.tick.specs.Tally.{sideOf, sideLane}
-use borrow.Author.Needs.{needs}
-use native.Mathlib.Omega.{arith}
 use Rattle.tick.proofs.tally.sides.Statement.{statement}
 use Rattle.tick.proofs.tally.sides.Tie as tie
 
@@ -43,9 +43,10 @@ sides-spec =
     (λ c. omega arith)
     (λ c.
     let l = c .before .before .before .before .loop in
-    let s = c .before .before .before .before .before .before .before in
-    (omega arith,
-    filled-more 0 (at (now (s .args .cells))) (now (s .args .lane)) (l .p) (l .lane) (c .side-of .result) (l .inv .1) (omega (arith, s .pre .1, s .pre .2)) (c .side-of .ensures)))
+    let s = c .before .before .before .before .before .before .before in (
+      omega arith,
+      filled-more 0 (at (now (s .args .cells))) (now (s .args .lane)) (l .p) (l .lane) (c .side-of .result) (l .inv .1) (omega (arith, s .pre .1, s .pre .2)) (c .side-of .ensures),
+    ))
     (λ c. c .before .loop .inv .1 .long)
     (λ c.
     let l = c .before .loop in
