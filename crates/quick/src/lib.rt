@@ -37,8 +37,11 @@ pub struct Look {
 
 // The last tick but one before a state that waits is left.
 const DETECTING_LAST: u16 = limits::DETECTING_ENDS - 1;
+
 const BACKOFF_LAST: u16 = limits::BACKOFF_ENDS - 1;
+
 const ERROR_DELAY_LAST: u16 = limits::ERROR_DELAY_ENDS - 1;
+
 const POWER_LAST: u16 = limits::POWER_UP_ENDS - 1;
 
 // A choice without a branch.
@@ -98,8 +101,15 @@ fn look_at(state: u16, control: u16, demand: u16, flags: u16, counts: Counts) ->
         overload: pick(shut, overload, counts.overload),
         no_load: pick(stays, gone, counts.no_load),
     };
-    let mark = pick(shut | detects | backs | delays | classes | stands, 0, 65_535);
-    Look { counts: after, mark }
+    let mark = pick(
+        shut | detects | backs | delays | classes | stands,
+        0,
+        65_535,
+    );
+    Look {
+        counts: after,
+        mark,
+    }
 }
 
 fn counts_at(cells: &[u16], p: usize) -> Counts

@@ -1,4 +1,5 @@
 pub mod Digest
+pub mod Judging
 pub mod Moving
 pub mod OnCells
 pub mod Passes

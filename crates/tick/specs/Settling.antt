@@ -51,7 +51,6 @@ entered false x = refl
 -- a table, its moves, and the cells and the lane that hold what they came to
 module _ (t : Table) (moved : ℕ → Moved) (opens : Opens t moved) (few : t .count ≤ 48) (l lane : List ℕ)
     (ports : (p : ℕ) → p < t .count → portOf l p ≡ moved p .port) (asks : (p : ℕ) → p < t .count → isSet (getD lane p 0) ≡ moved p .asks) where
-
   -- the ranks and the demands that the passes work out are the claims'
   ranks-are : ranksOn (t .count) lane l ≡ tabulate 48 (rankAt t moved)
   unfolding ranksOn rankAt

@@ -17,6 +17,7 @@ use Rattle.lists.specs.Places.{side, tabulate, length-tabulate, getD-tabulate}
 use Rattle.lists.specs.Tests.{fails-left, fails-right, choice}
 use Rattle.lists.specs.Total.{total, total-cong, total-zero}
 use Rattle.power.specs.Power.{tenths, forced}
+use Rattle.power.specs.declared.Power.{Power}
 use Rattle.reading.specs.Sample.{sampleAt, reservedFlags, flagsOf}
 use Rattle.words.specs.Control.{refused}
 use Rattle.port.specs.Form.{quietly}
@@ -25,6 +26,7 @@ use Rattle.port.specs.declared.form.Moved.{Moved}
 use Rattle.port.specs.declared.form.Port.{Port}
 use Rattle.diagram.specs.Open.{open-stays}
 use Rattle.diagram.specs.Step.{step}
+use Rattle.share.specs.Share.{claimedSum}
 use Rattle.table.specs.Drawn.{draws}
 use Rattle.table.specs.Form.{portAt}
 use Rattle.table.specs.Well.{Well}
@@ -37,10 +39,10 @@ use Rattle.quick.specs.Sweep.{Small, signsBy, lookedAt, isMarked, lookedCells, 
 use Rattle.quick.specs.Swept.{Fair, swept, looked-written, unmarked-moves, marked-stays}
 use Rattle.quick.specs.declared.Signs.{Signs}
 use Rattle.well.specs.Laws.{WellCells, cells-of}
-use Rattle.boards.specs.Laws.{Opens, count-after, port-after-at}
-use Rattle.boards.specs.Sharing.{portAfter, tableAfter}
+use Rattle.boards.specs.Laws.{Opens, count-after, supply-after, port-after-at}
+use Rattle.boards.specs.Sharing.{rankAt, claimAt, portAfter, tableAfter}
 use Rattle.tick.specs.Digest.{digest, signsIn, signs-in}
-use Rattle.tick.specs.Passes.{Classes, isSet, flagsOfPort, flagsFine, flagLane, wholeMove, markedMove, steppedPort, steppedLane, Ready, movedOn, askedOn, someAsk, drawnOn, sharedOn, movedCells}
+use Rattle.tick.specs.Passes.{Classes, isSet, flagsOfPort, flagsFine, flagLane, wholeMove, markedMove, steppedPort, steppedLane, Ready, movedOn, askedOn, someAsk, sharedBy, drawnOn, sharedOn, movedCells}
 use Rattle.tick.specs.Settling.{claimed-at-most, quiet-is, shared-is}
 use Rattle.tick.specs.Tick.{movedAt}
 use Rattle.tick.specs.Wells.{digest-well, step-well}
@@ -107,7 +109,7 @@ module _ (l block lane : List ℕ) (ready : Ready l block lane) where
   long = omega (arith, well .long)
 
   -- ---- the lane of flags
-  lane-long : length lane ≡ 48
+  pub lane-long : length lane ≡ 48
   unfolding flagLane
   lane-long = ap length (ready .flags) ∙ length-tabulate 48 _
 
@@ -156,7 +158,9 @@ module _ (l block lane : List ℕ) (ready : Ready l block lane) where
 
   lane1-set : (p : ℕ) → p < n → isSet (getD (sweptLane l lane) p 0) ≡ isMarked (getD lane p 0) l p
   unfolding isMarked
-  lane1-set p h = ap isSet (lane1-at p (omega (arith, few)) ∙ simp (lt-ltb p n h))
+  lane1-set p h =
+      ap isSet (lane1-at p (omega (arith, few)))
+      ∙ ap (λ (b : Bool). isSet (cond b (lookedAt (getD lane p 0) l p .mark) (getD lane p 0))) (lt-ltb p n h)
 
   lane1-past : (p : ℕ) → n ≤ p → p < 48 → getD (sweptLane l lane) p 0 ≡ 0
   lane1-past p h k = lane1-at p k ∙ simp (le-ltb p n h) (lane-past p h k)
@@ -240,7 +244,8 @@ module _ (l block lane : List ℕ) (ready : Ready l block lane) where
     where
       go : (b : Bool) → sweptLeft l lane ≡ b → isSet (getD (cond b (tabulate 48 (λ q. cond (ltb q n) (one (markedMove (getD (sweptLane l lane) q 0) block (sweptCells l lane) q .asks)) (getD (sweptLane l lane) q 0))) (sweptLane l lane)) p 0) ≡ mv p .asks
       go true q =
-          ap isSet (getD-tabulate 48 _ 0 p (omega (arith, few)) ∙ simp (lt-ltb p n h))
+          ap isSet (getD-tabulate 48 _ 0 p (omega (arith, few)))
+          ∙ ap (λ (b : Bool). isSet (cond b (one (markedMove (getD (sweptLane l lane) p 0) block (sweptCells l lane) p .asks)) (getD (sweptLane l lane) p 0))) (lt-ltb p n h)
           ∙ set-one (markedMove (getD (sweptLane l lane) p 0) block (sweptCells l lane) p .asks)
           ∙ ap (λ (m : Moved). m .asks) (move-is p h)
       go false q = lane1-set p h ∙ none-left q p h ∙ sym (ap (λ (m : Moved). m .asks) (unmarked-is p h (none-left q p h)))
@@ -278,3 +283,60 @@ module _ (l block lane : List ℕ) (ready : Ready l block lane) where
       let w = step-well (portOf l p) (digest (sampleAt block (14 * p))) (digest-well (sampleAt block (14 * p))) (well .ports p h) in
       let f : mv p .port .class ≡ step forced (portOf l p) (digest (sampleAt block (14 * p))) .port .class = ap (λ (m : Moved). m .port .class) (mv-is p h) in
       omega (arith, w .class)
+
+  opens : Opens t mv
+  unfolding movedAt
+  opens p h = open-stays forced (portAt t p) (digest (sampleAt block (14 * p)))
+
+  module _ (supply : ℕ) where
+    drawn-is : drawnOn n m2 ≡ total n (λ p. draws (mv p .port))
+    unfolding drawnOn
+    drawn-is = total-cong n (λ p. draws (portOf m2 p)) (λ p. draws (mv p .port)) (λ p h. ap draws (port2 p h))
+
+    pub shared-cells : sharedOn n lane2 (someAsk l block lane) supply m2 ≡ written n (portAfter t mv (tenths supply)) l
+    unfolding sharedOn tableOf
+    shared-cells = go (someAsk l block lane) (ltb supply (drawnOn n m2)) refl refl
+      where
+        again : (f : ℕ → Port) → written n f m2 ≡ written n f l
+        again f = ap (written n f) moved-cells ∙ written-again n (λ p. mv p .port) f l few long
+
+        shared : written n (sharedBy n lane2 (drawnOn n m2) supply m2) m2 ≡ written n (portAfter t mv (tenths supply)) l
+        shared =
+            written-cong n (sharedBy n lane2 (drawnOn n m2) supply m2) (portAfter t mv (tenths supply)) m2 few (omega (arith, cells2-long))
+            (λ p h. shared-is t mv opens few m2 lane2 port2 asked-at (tenths supply) (drawnOn n m2) drawn-is p h)
+            ∙ again (portAfter t mv (tenths supply))
+
+        go : (a b : Bool) → someAsk l block lane ≡ a → ltb supply (drawnOn n m2) ≡ b → cond (a || b) (written n (sharedBy n lane2 (drawnOn n m2) supply m2) m2) m2 ≡ written n (portAfter t mv (tenths supply)) l
+        go true b q r = shared
+        go false true q r = shared
+        go false false q r =
+            let wants : total n (λ p. cond (mv p .asks) (mv p .port .demand .0) 0) ≡ 0 = total-zero n _ (λ p h. ap (λ (a : Bool). cond a (mv p .port .demand .0) 0) (none-asks q p h)) in
+            let fits : claimedSum 48 (rankAt t mv) (λ q. claimAt t mv q .0) ≤ supply = le-trans (claimed-at-most t mv opens few m2 lane2 port2 asked-at) (omega (arith, wants, drawn-is, ltb-false supply (drawnOn n m2) r)) in
+            moved-cells
+            ∙ written-cong n (λ p. mv p .port) (portAfter t mv (tenths supply)) l few long (λ p h. quiet-is t mv opens few m2 lane2 port2 asked-at (tenths supply) fits p h (none-asks q p h))
+
+    abbrev told : Table
+    told = tableAfter t mv (tenths supply)
+
+    -- the figure is stored, and the cells are the tick's
+    pub stored-cells : set (sharedOn n lane2 (someAsk l block lane) supply m2) 1 supply ≡ movedCells l block supply
+    unfolding movedCells cellsWith tableOf
+    stored-cells =
+        let long′ : 584 ≤ length (set l 1 supply) = omega (arith, length-set l 1 supply, long) in
+        ap (λ (x : List ℕ). set x 1 supply) shared-cells
+        ∙ written-set n (portAfter t mv (tenths supply)) l 1 supply few long (omega arith)
+        ∙ written-cong n (portAfter t mv (tenths supply)) (portAt told) (set l 1 supply) few long′ (λ p h. sym (port-after-at t mv (tenths supply) p (omega (arith, few))))
+        ∙ ap₂ (λ (k : ℕ) (s : ℕ). written k (portAt told) (set l 1 s)) (sym (count-after t mv (tenths supply))) (sym (ap (λ (x : Power). x .0) (supply-after t mv (tenths supply))))
+
+    pub stored-long : length (set (sharedOn n lane2 (someAsk l block lane) supply m2) 1 supply) ≡ cellsLong
+    stored-long = length-set (sharedOn n lane2 (someAsk l block lane) supply m2) 1 supply ∙ ap length shared-cells ∙ written-long n (portAfter t mv (tenths supply)) l ∙ well .long
+
+    -- and so are their ports
+    pub stored-port : (p : ℕ) → p < n → portOf (set (sharedOn n lane2 (someAsk l block lane) supply m2) 1 supply) p ≡ portAt told p
+    unfolding tableOf
+    stored-port p h =
+        let long′ : 584 ≤ length (set l 1 supply) = omega (arith, length-set l 1 supply, long) in
+        ap (λ (x : List ℕ). portOf (set x 1 supply) p) shared-cells
+        ∙ ap (λ (x : List ℕ). portOf x p) (written-set n (portAfter t mv (tenths supply)) l 1 supply few long (omega arith))
+        ∙ port-written n (portAfter t mv (tenths supply)) (set l 1 supply) few long′ p h
+        ∙ sym (port-after-at t mv (tenths supply) p (omega (arith, few)))

@@ -26,7 +26,11 @@ fn stepped(cells: &mut [u16], block: &[u8], p: usize, mark: u16) -> bool
     if mark == 0 {
         return false;
     }
-    let moved = step(Power::FORCED, port_at(cells, p), digest_of(sample(block, p)));
+    let moved = step(
+        Power::FORCED,
+        port_at(cells, p),
+        digest_of(sample(block, p)),
+    );
     let port = moved.port;
     put_port(cells, p, port);
     moved.asks

@@ -54,7 +54,11 @@ fn side_of(state: u16, control: u16) -> u16
     ensures { λ r. ⌜ r ≡ sideIn (stateOf state) control ⌝ }
 {
     let pair = control / 4 % 4;
-    pick(is_shut(state), pick(pair == 1, 1, pick(pair == 2, 256, 0)), 0)
+    pick(
+        is_shut(state),
+        pick(pair == 1, 1, pick(pair == 2, 256, 0)),
+        0,
+    )
 }
 
 // The side of every port into the lane.

@@ -64,14 +64,15 @@ sweep-all-spec =
     let small : l .p < 48 = omega (arith, s .pre .1) in
     let t = turn lane₀ cells₀ (l .lane) (l .cells) (l .p) (l .inv .1) (l .inv .2) small in
     let mark : q .result ≡ lookedAt (getD lane₀ (l .p) 0) cells₀ (l .p) .mark = q .ensures .0 ∙ ap (λ (x : Look). x .mark) t in
-    let flags : getD (l .lane) (l .p) 0 ≡ getD lane₀ (l .p) 0 = l .inv .2 .left (l .p) (omega arith) in
-    (omega arith,
-    looked-more lane₀ cells₀ (l .p) (l .cells) _ (l .inv .1) small (rw flags at (q .ensures .1)),
-    filled-more 0 (marks lane₀ cells₀) lane₀ (l .p) (l .lane) (q .result) (l .inv .2) (omega (arith, s .pre .2)) mark,
-    c .greater .ensures
-    ∙ ap₂ (λ (x y : ℕ). cond (ltb x y) y x) (l .inv .3) (mark ∙ mark-bits (getD lane₀ (l .p) 0) cells₀ (l .p))
-    ∙ bits-joined (some (l .p) lane₀ cells₀) (isMarked (getD lane₀ (l .p) 0) cells₀ (l .p))
-    ∙ ap (λ (k : ℕ). allBits (some k lane₀ cells₀)) (sym (add-one (l .p)))))
+    let flags : getD (l .lane) (l .p) 0 ≡ getD lane₀ (l .p) 0 = l .inv .2 .left (l .p) (omega arith) in (
+      omega arith,
+      looked-more lane₀ cells₀ (l .p) (l .cells) _ (l .inv .1) small (rw flags at (q .ensures .1)),
+      filled-more 0 (marks lane₀ cells₀) lane₀ (l .p) (l .lane) (q .result) (l .inv .2) (omega (arith, s .pre .2)) mark,
+      c .greater .ensures
+          ∙ ap₂ (λ (x y : ℕ). cond (ltb x y) y x) (l .inv .3) (mark ∙ mark-bits (getD lane₀ (l .p) 0) cells₀ (l .p))
+          ∙ bits-joined (some (l .p) lane₀ cells₀) (isMarked (getD lane₀ (l .p) 0) cells₀ (l .p))
+          ∙ ap (λ (k : ℕ). allBits (some k lane₀ cells₀)) (sym (add-one (l .p))),
+    ))
     (λ c.
     let l = c .before .loop in
     let a = c .before .before .before .before .args in
@@ -80,7 +81,10 @@ sweep-all-spec =
     (λ c.
     let l = c .before .loop in
     let s = c .before .before .before .before in
-    let e : l .p ≡ s .args .n = le-antisymm (l .inv .0) (omega arith) in
-    (ap (λ (x : ℕ). not (eqb x 0)) (rw e at (l .inv .3)) ∙ bits-some _,
-    (rw e at (l .inv .1),
-    filled-below 0 (marks (now (s .args .lane)) (now (s .args .cells))) (now (s .args .lane)) 48 (s .args .n) (l .lane) (s .pre .2) (rw e at (l .inv .2))))))
+    let e : l .p ≡ s .args .n = le-antisymm (l .inv .0) (omega arith) in (
+      ap (λ (x : ℕ). not (eqb x 0)) (rw e at (l .inv .3)) ∙ bits-some _,
+      (
+        rw e at (l .inv .1),
+        filled-below 0 (marks (now (s .args .lane)) (now (s .args .cells))) (now (s .args .lane)) 48 (s .args .n) (l .lane) (s .pre .2) (rw e at (l .inv .2)),
+      ),
+    )))

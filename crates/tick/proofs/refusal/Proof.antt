@@ -1,108 +1,73 @@
+-- `refusal` is `refusalOf`, and where nothing is refused the lane has the flags.
+-- Assumes nothing.
+use Prim.Native.Nat.{ℕ, _*_, _<_, _≤_}
+use mathlib.Core.Path.{_≡_, sym, _∙_, ap}
+use mathlib.Core.Bool.{Bool, true, false, _&&_}
+use mathlib.Core.List.{List}
+use native.Mathlib.Omega.{arith}
+use lib.ListN.{length}
 use borrow.Author.Needs.{needs}
+use borrow.Author.Tests.{not-true, not-false, eq-eqb, ne-eqb, lt-ltb, le-ltb}
+use denote.Ref.{now}
+use Rattle.lists.specs.Every.{every}
+use Rattle.cells.specs.Cells.{countCell}
+use Rattle.well.specs.Judged.{headCells, wellCells, portFine}
+use Rattle.well.specs.Laws.{well-cells, head-long, head-count}
+use Rattle.tick.specs.Passes.{refusalOf, flagsFine}
 use Rattle.tick.proofs.refusal.Statement.{statement}
 use Rattle.tick.proofs.refusal.Tie as tie
-use Rattle.tick.proofs.refusal.Reads as reads
-use Rattle.tick.proofs.refusal.Lts as lts
-use Rattle.tick.proofs.block.flags_into.Reads as flags-into-reads
-use Rattle.well.proofs.well_head.Reads as well-head-reads
-use Rattle.well.proofs.well_made.Reads as well-made-reads
 
--- src/lib.rt:36:9
-well-head-requires : tie.Need-well-head-requires
-well-head-requires c κs = search needs
-
--- src/lib.rt:37:9
-returns : tie.Need-returns
-returns c = ?
-
--- src/lib.rt:39:13
-shared-slice-read-n : tie.Need-shared-slice-read-n
-shared-slice-read-n c = ?
-
--- src/lib.rt:39:13
-cast-n : tie.Need-cast-n
-cast-n c = ?
-
--- src/lib.rt:40:23
-mul-if2 : tie.Need-mul-if2
-mul-if2 c = ?
-
--- src/lib.rt:41:19
-well-made-requires : tie.Need-well-made-requires
-well-made-requires c κs = search needs
-
--- src/lib.rt:41:9
-returns-2 : tie.Need-returns-2
-returns-2 c = ?
-
--- src/lib.rt:41:9
-returns-3 : tie.Need-returns-3
-returns-3 c = ?
-
--- src/lib.rt:43:9
-flags-into-requires : tie.Need-flags-into-requires
-flags-into-requires c κs = ?
-
--- src/lib.rt:44:9
-well-made-requires-2 : tie.Need-well-made-requires-2
-well-made-requires-2 c κs = search needs
-
--- src/lib.rt:45:9
-same-length : tie.Need-same-length
-same-length c = search needs
-
--- src/lib.rt:45:9
-returns-4 : tie.Need-returns-4
-returns-4 c = ?
-
--- src/lib.rt:48:17
-cast-if5 : tie.Need-cast-if5
-cast-if5 c = search needs
-
--- src/lib.rt:49:9
-same-length-2 : tie.Need-same-length-2
-same-length-2 c = search needs
-
--- src/lib.rt:49:9
-returns-5 : tie.Need-returns-5
-returns-5 c = ?
-
--- src/lib.rt:31:1
-same-length-3 : tie.Need-same-length-3
-same-length-3 c = search needs
-
--- src/lib.rt:31:1
-returns-6 : tie.Need-returns-6
-returns-6 c = ?
-
--- src/lib.rt:31:1
-same-length-4 : tie.Need-same-length-4
-same-length-4 c = search needs
-
--- src/lib.rt:31:1
-returns-7 : tie.Need-returns-7
-returns-7 c = ?
+-- cells without a well-made head are not well-made
+no-head : (l : List ℕ) → headCells l ≡ false → wellCells l ≡ false
+no-head l e = well-cells l ∙ ap (λ (b : Bool). b && every (countCell l) (portFine l)) e
 
 pub refusal-spec : {M : Type 1} → statement M
+unfolding refusalOf
 refusal-spec =
     tie.close
     (tie.spec
-    well-head-requires
-    returns
-    shared-slice-read-n
-    cast-n
-    mul-if2
-    well-made-requires
-    returns-2
-    returns-3
-    flags-into-requires
-    well-made-requires-2
-    same-length
-    returns-4
-    cast-if5
-    same-length-2
-    returns-5
-    same-length-3
-    returns-6
-    same-length-4
-    returns-7)
+    (λ c κs. search needs)
+    (λ c.
+    let l = now (c .before .before .before .before .before .args .cells) in
+    let e = no-head l (sym (c .before .well-head .ensures) ∙ not-true _ (c .if1 .taken)) in
+    (simp e, λ z. absurd (omega arith)))
+    (λ c.
+    let l = now (c .before .before .before .before .before .before .args .cells) in
+    omega (arith, head-long l (sym (c .before .before .well-head .ensures) ∙ not-false _ (c .before .if1 .left))))
+    (λ c.
+    let l = now (c .before .before .before .before .before .before .args .cells) in
+    omega (arith, head-count l (sym (c .before .before .well-head .ensures) ∙ not-false _ (c .before .if1 .left))))
+    (λ c.
+    let l = now (c .before .before .before .before .before .before .args .cells) in
+    omega (arith, head-count l (sym (c .before .before .well-head .ensures) ∙ not-false _ (c .before .if1 .left))))
+    (λ c κs. search needs)
+    (λ c.
+    let e = sym (c .before .well-made .ensures) ∙ c .if3 .taken in
+    (simp (e, ne-eqb _ _ (c .before .before .if2 .taken)), λ z. absurd (omega arith)))
+    (λ c.
+    let e = sym (c .before .well-made .ensures) ∙ c .if3 .left in
+    (simp e, λ z. absurd (omega arith)))
+    (λ c κs.
+    let s = c .before .before .before .before .before .before .before .before in
+    let l = now (s .args .cells) in
+    (c .before .if2 .left, head-count l (sym (c .before .before .before .before .well-head .ensures) ∙ not-false _ (c .before .before .before .if1 .left)), s .pre))
+    (λ c κs. search needs)
+    (λ c. search needs)
+    (λ c.
+    let e = sym (c .before .well-made2 .ensures) ∙ not-true _ (c .if4 .taken) in
+    (simp e, λ z. absurd (omega arith)))
+    (λ c. search needs)
+    (λ c. search needs)
+    (λ c.
+    let e = sym (c .before .before .well-made2 .ensures) ∙ not-false _ (c .before .if4 .left) in
+    (simp (e, eq-eqb _ _ (c .before .before .before .before .before .before .before .if2 .left), lt-ltb _ _ (c .if5 .taken)), λ z. absurd (omega arith)))
+    (λ c. search needs)
+    (λ c.
+    let e = sym (c .before .before .before .well-made2 .ensures) ∙ not-false _ (c .before .before .if4 .left) in
+    let f = sym (c .before .before .before .before .before .before .flags-into .ensures .0) ∙ c .if6 .taken in
+    (simp (e, eq-eqb _ _ (c .before .before .before .before .before .before .before .before .if2 .left), le-ltb _ _ (c .before .if5 .left), f), λ z. c .before .before .before .before .before .before .flags-into .ensures .1 f))
+    (λ c. search needs)
+    (λ c.
+    let e = sym (c .before .before .before .well-made2 .ensures) ∙ not-false _ (c .before .before .if4 .left) in
+    let f = sym (c .before .before .before .before .before .before .flags-into .ensures .0) ∙ c .if6 .left in
+    (simp (e, eq-eqb _ _ (c .before .before .before .before .before .before .before .before .if2 .left), le-ltb _ _ (c .before .if5 .left), f), λ z. absurd (omega arith))))

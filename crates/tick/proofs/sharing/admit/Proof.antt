@@ -39,21 +39,23 @@ admit-spec =
     (λ c κs.
     let l = c .before .before .before .before .loop in
     let s = c .before .before .before .before .before .before .before in
-    let t = c .before .before .before .loop-test .taken in
-    (come-long (s .args .n) _ (now (s .args .cells)) (s .pre .1) (s .pre .0) (l .p) (l .cells) (l .inv .1),
-    omega (arith, s .pre .1),
-    omega (arith, come-class (s .args .n) _ (now (s .args .cells)) (s .pre .1) (s .pre .0) (l .p) (l .cells) (l .inv .1) t, s .pre .4 (l .p) t)))
+    let t = c .before .before .before .loop-test .taken in (
+      come-long (s .args .n) _ (now (s .args .cells)) (s .pre .1) (s .pre .0) (l .p) (l .cells) (l .inv .1),
+      omega (arith, s .pre .1),
+      omega (arith, come-class (s .args .n) _ (now (s .args .cells)) (s .pre .1) (s .pre .0) (l .p) (l .cells) (l .inv .1) t, s .pre .4 (l .p) t),
+    ))
     (λ c. omega arith)
     (λ c. omega arith)
     (λ c.
     let l = c .before .before .before .before .before .before .before .loop in
     let s = c .before .before .before .before .before .before .before .before .before .before in
     let t = c .before .before .before .before .before .before .loop-test .taken in
-    let r = cond (isSet (getD (now (s .args .lane)) (l .p) 0)) 3 noClaim in
-    (omega arith,
-    c .before .before .settle .ensures
-    ∙ ap (λ (k : ℕ). cond (settlingChanges k true) (withPortCells (l .p) (settledAs k true (portOf (l .cells) (l .p)) .port) (l .cells)) (l .cells)) (c .before .before .before .asker-rank .ensures)
-    ∙ come-settled (s .args .n) (admittedBy (now (s .args .lane)) (now (s .args .cells))) (now (s .args .cells)) (s .pre .1) (s .pre .0) (l .p) (l .cells) (l .inv .1) t r true refl))
+    let r = cond (isSet (getD (now (s .args .lane)) (l .p) 0)) 3 noClaim in (
+      omega arith,
+      c .before .before .settle .ensures
+          ∙ ap (λ (k : ℕ). cond (settlingChanges k true) (withPortCells (l .p) (settledAs k true (portOf (l .cells) (l .p)) .port) (l .cells)) (l .cells)) (c .before .before .before .asker-rank .ensures)
+          ∙ come-settled (s .args .n) (admittedBy (now (s .args .lane)) (now (s .args .cells))) (now (s .args .cells)) (s .pre .1) (s .pre .0) (l .p) (l .cells) (l .inv .1) t r true refl,
+    ))
     (λ c.
     let l = c .before .loop in
     let s = c .before .before .before .before in

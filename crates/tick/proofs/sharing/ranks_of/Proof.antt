@@ -50,9 +50,11 @@ ranks-of-spec =
     (λ c. omega arith)
     (λ c.
     let l = c .before .before .before .before .before .before .loop in
-    let a = c .before .before .before .before .before .before .before .before .before .args in
-    (omega arith, filled-more 0 (rankHere (now (a .cells)) (now (a .lane))) (replicate 48 noClaim) (l .p) (l .ranks) _ (l .inv .1) (omega (arith, c .before .before .before .before .before .before .before .before .before .pre .1))
-    (c .rank-in .ensures ∙ ap (λ (s : State). rankIn s (portOf (now (a .cells)) (l .p) .control) (isSet (getD (now (a .lane)) (l .p) 0))) (c .before .before .before .state-of .ensures))))
+    let a = c .before .before .before .before .before .before .before .before .before .args in (
+      omega arith,
+      filled-more 0 (rankHere (now (a .cells)) (now (a .lane))) (replicate 48 noClaim) (l .p) (l .ranks) _ (l .inv .1) (omega (arith, c .before .before .before .before .before .before .before .before .before .pre .1))
+          (c .rank-in .ensures ∙ ap (λ (s : State). rankIn s (portOf (now (a .cells)) (l .p) .control) (isSet (getD (now (a .lane)) (l .p) 0))) (c .before .before .before .state-of .ensures)),
+    ))
     (λ c.
     let l = c .before .loop in
     let a = c .before .before .before .before .args in

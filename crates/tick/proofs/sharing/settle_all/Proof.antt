@@ -37,19 +37,21 @@ settle-all-spec =
     (λ c κs.
     let l = c .before .before .loop in
     let s = c .before .before .before .before in
-    let t = c .before .loop-test .taken in
-    (come-long (s .args .n) _ (now (s .args .cells)) (s .pre .1) (s .pre .0) (l .p) (l .cells) (l .inv .1),
-    omega (arith, s .pre .1),
-    omega (arith, come-class (s .args .n) _ (now (s .args .cells)) (s .pre .1) (s .pre .0) (l .p) (l .cells) (l .inv .1) t, s .pre .3 (l .p) t)))
+    let t = c .before .loop-test .taken in (
+      come-long (s .args .n) _ (now (s .args .cells)) (s .pre .1) (s .pre .0) (l .p) (l .cells) (l .inv .1),
+      omega (arith, s .pre .1),
+      omega (arith, come-class (s .args .n) _ (now (s .args .cells)) (s .pre .1) (s .pre .0) (l .p) (l .cells) (l .inv .1) t, s .pre .3 (l .p) t),
+    ))
     (λ c. omega arith)
     (λ c. omega arith)
     (λ c.
     let l = c .before .before .before .before .before .loop in
     let s = c .before .before .before .before .before .before .before in
-    let t = c .before .before .before .before .loop-test .taken in
-    (omega arith,
-    c .before .before .settle .ensures
-    ∙ come-settled (s .args .n) (settledBy (s .args .t3) (s .args .t4) (now (s .args .cells))) (now (s .args .cells)) (s .pre .1) (s .pre .0) (l .p) (l .cells) (l .inv .1) t (getD (s .args .t3) (l .p) 0) (getD (s .args .t4) (l .p) false) refl))
+    let t = c .before .before .before .before .loop-test .taken in (
+      omega arith,
+      c .before .before .settle .ensures
+          ∙ come-settled (s .args .n) (settledBy (s .args .t3) (s .args .t4) (now (s .args .cells))) (now (s .args .cells)) (s .pre .1) (s .pre .0) (l .p) (l .cells) (l .inv .1) t (getD (s .args .t3) (l .p) 0) (getD (s .args .t4) (l .p) false) refl,
+    ))
     (λ c.
     let l = c .before .loop in
     let s = c .before .before .before in

@@ -75,21 +75,23 @@ steps-spec =
     let clear = c .before .clear-ahead .ensures (c .if1 .taken) in
     let zero : (q : ℕ) → l .p ≤ q → q < l .p + 8 → getD (l .lane) q 0 ≡ 0 = λ q a b.
     ap (λ (k : ℕ). getD (l .lane) k 0) (let x : q ≡ l .p + (q - l .p) = omega arith in x) ∙ clear .1 (q - l .p) (omega arith) in
-    let plain : (q : ℕ) → l .p ≤ q → q < l .p + 8 → getD lane₀ q 0 ≡ 0 = λ q a b. sym (l .inv .2 .left q a) ∙ zero q a b in
-    (clear .0,
-    come-over (s .args .n) (steppedPort lane₀ block cells₀) cells₀ (s .pre .1) (s .pre .0) (l .p) (l .cells) (l .inv .1) (l .p + 8) (omega arith) (λ q a b d. unmarked lane₀ block cells₀ q (plain q a b) .0),
-    filled-skip (asking lane₀ block cells₀) lane₀ (l .lane) (l .p) (l .p + 8) (omega arith) (l .inv .2) (λ q a b. zero q a b ∙ sym (ap one (unmarked lane₀ block cells₀ q (plain q a b) .1))),
-    l .inv .3 ∙ sym (some-skip (λ q. move lane₀ block cells₀ q .asks) (l .p) 8 (λ q a b. unmarked lane₀ block cells₀ q (plain q a b) .1))))
+    let plain : (q : ℕ) → l .p ≤ q → q < l .p + 8 → getD lane₀ q 0 ≡ 0 = λ q a b. sym (l .inv .2 .left q a) ∙ zero q a b in (
+      clear .0,
+      come-over (s .args .n) (steppedPort lane₀ block cells₀) cells₀ (s .pre .1) (s .pre .0) (l .p) (l .cells) (l .inv .1) (l .p + 8) (omega arith) (λ q a b d. unmarked lane₀ block cells₀ q (plain q a b) .0),
+      filled-skip (asking lane₀ block cells₀) lane₀ (l .lane) (l .p) (l .p + 8) (omega arith) (l .inv .2) (λ q a b. zero q a b ∙ sym (ap one (unmarked lane₀ block cells₀ q (plain q a b) .1))),
+      l .inv .3 ∙ sym (some-skip (λ q. move lane₀ block cells₀ q .asks) (l .p) 8 (λ q a b. unmarked lane₀ block cells₀ q (plain q a b) .1)),
+    ))
     (λ c. omega arith)
     (λ c. omega (arith, c .before .before .before .before .before .before .loop .inv .2 .long, c .before .before .before .before .before .before .before .before .before .before .pre .1, c .before .before .before .before .before .before .before .before .before .before .pre .3))
     (λ c κs.
     let l = c .before .before .before .before .before .before .loop in
     let s = c .before .before .before .before .before .before .before .before .before .before in
-    let t = c .before .before .before .before .before .loop-test .taken in
-    (come-long (s .args .n) _ (now (s .args .cells)) (s .pre .1) (s .pre .0) (l .p) (l .cells) (l .inv .1),
-    omega (arith, s .pre .1),
-    omega (arith, s .pre .2),
-    omega (arith, come-class (s .args .n) _ (now (s .args .cells)) (s .pre .1) (s .pre .0) (l .p) (l .cells) (l .inv .1) t, s .pre .5 (l .p) t)))
+    let t = c .before .before .before .before .before .loop-test .taken in (
+      come-long (s .args .n) _ (now (s .args .cells)) (s .pre .1) (s .pre .0) (l .p) (l .cells) (l .inv .1),
+      omega (arith, s .pre .1),
+      omega (arith, s .pre .2),
+      omega (arith, come-class (s .args .n) _ (now (s .args .cells)) (s .pre .1) (s .pre .0) (l .p) (l .cells) (l .inv .1) t, s .pre .5 (l .p) t),
+    ))
     (λ c κs. search needs)
     (λ c. omega arith)
     (λ c. omega (arith, c .before .before .before .before .before .before .before .before .before .before .loop .inv .2 .long, c .before .before .before .before .before .before .before .before .before .before .before .before .before .before .pre .1, c .before .before .before .before .before .before .before .before .before .before .before .before .before .before .pre .3))
@@ -106,12 +108,13 @@ steps-spec =
     let mark : getD (l .lane) (l .p) 0 ≡ getD lane₀ (l .p) 0 = l .inv .2 .left (l .p) (omega arith) in
     let asks : q .result ≡ move lane₀ block cells₀ (l .p) .asks =
     q .ensures .0 ∙ ap (λ (k : ℕ). markedMove k block (l .cells) (l .p) .asks) mark
-    ∙ ap (λ (m : Moved). m .asks) (come-moved (s .args .n) (steppedPort lane₀ block cells₀) cells₀ (s .pre .1) (s .pre .0) (l .p) (l .cells) (l .inv .1) t (getD lane₀ (l .p) 0) block) in
-    (omega arith,
-    q .ensures .1 ∙ ap (λ (k : ℕ). cond (isSet k) (withPortCells (l .p) (wholeMove block (l .cells) (l .p) .port) (l .cells)) (l .cells)) mark
-    ∙ come-stepped (s .args .n) (steppedPort lane₀ block cells₀) cells₀ (s .pre .1) (s .pre .0) (l .p) (l .cells) (l .inv .1) t (getD lane₀ (l .p) 0) block (stepped-is lane₀ block cells₀ (l .p)),
-    filled-more 0 (asking lane₀ block cells₀) lane₀ (l .p) (l .lane) (c .said .result) (l .inv .2) (omega (arith, s .pre .1, s .pre .3)) (c .said .ensures ∙ ap one asks),
-    ap₂ _||_ (l .inv .3) asks ∙ ap (λ (k : ℕ). some k lane₀ block cells₀) (sym (add-one (l .p)))))
+    ∙ ap (λ (m : Moved). m .asks) (come-moved (s .args .n) (steppedPort lane₀ block cells₀) cells₀ (s .pre .1) (s .pre .0) (l .p) (l .cells) (l .inv .1) t (getD lane₀ (l .p) 0) block) in (
+      omega arith,
+      q .ensures .1 ∙ ap (λ (k : ℕ). cond (isSet k) (withPortCells (l .p) (wholeMove block (l .cells) (l .p) .port) (l .cells)) (l .cells)) mark
+          ∙ come-stepped (s .args .n) (steppedPort lane₀ block cells₀) cells₀ (s .pre .1) (s .pre .0) (l .p) (l .cells) (l .inv .1) t (getD lane₀ (l .p) 0) block (stepped-is lane₀ block cells₀ (l .p)),
+      filled-more 0 (asking lane₀ block cells₀) lane₀ (l .p) (l .lane) (c .said .result) (l .inv .2) (omega (arith, s .pre .1, s .pre .3)) (c .said .ensures ∙ ap one asks),
+      ap₂ _||_ (l .inv .3) asks ∙ ap (λ (k : ℕ). some k lane₀ block cells₀) (sym (add-one (l .p))),
+    ))
     (λ c.
     let l = c .before .loop in
     let s = c .before .before .before .before .before in
@@ -123,7 +126,10 @@ steps-spec =
     let lane₀ = now (s .args .lane) in
     let block = now (s .args .block) in
     let cells₀ = now (s .args .cells) in
-    let e : l .p ≡ s .args .n = le-antisymm (l .inv .0) (omega arith) in
-    (rw e at (l .inv .3),
-    (come-all (s .args .n) (steppedPort lane₀ block cells₀) cells₀ (s .pre .1) (s .pre .0) (l .cells) (rw e at (l .inv .1)),
-    filled-below 0 (asking lane₀ block cells₀) lane₀ 48 (s .args .n) (l .lane) (s .pre .3) (rw e at (l .inv .2))))))
+    let e : l .p ≡ s .args .n = le-antisymm (l .inv .0) (omega arith) in (
+      rw e at (l .inv .3),
+      (
+        come-all (s .args .n) (steppedPort lane₀ block cells₀) cells₀ (s .pre .1) (s .pre .0) (l .cells) (rw e at (l .inv .1)),
+        filled-below 0 (asking lane₀ block cells₀) lane₀ 48 (s .args .n) (l .lane) (s .pre .3) (rw e at (l .inv .2)),
+      ),
+    )))
