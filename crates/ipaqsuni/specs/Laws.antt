@@ -1,5 +1,5 @@
 -- What holds of every call of the C interface: no refusal is numbered 0, and it writes nothing; what an accepted call leaves is read by the
--- next one as the table that the core told; and a table that was saved comes back.
+-- next one as the table that the core told, and what is no part of that table is as it was; and a table that was saved comes back.
 -- Assumes nothing.
 use mathlib.Core.Path.{_≡_, refl, sym, _∙_, ap}
 use mathlib.Core.Bool.{Bool, true, false, cond, not, _&&_}
@@ -7,11 +7,12 @@ use mathlib.Core.List.{List, [], _∷_}
 use Prim.Native.Nat.{ℕ, _+_, _*_, _≤_, _<_}
 use native.Mathlib.Omega.{arith}
 use lib.Dec.{eqb, leb, ltb}
-use lib.ListN.{length, getD, length-set, length-replicate}
+use lib.ListN.{length, getD, set, length-set, length-replicate}
+use lib.Seq.{getD-set-other}
 use borrow.Author.Needs.{needs}
 use borrow.Author.Tests.{eqb-true, eq-eqb, leb-false, ltb-false}
 use Rattle.lists.specs.Ladder.{ladder, Clear, Each, ladder-each}
-use Rattle.lists.specs.Places.{length-tabulate}
+use Rattle.lists.specs.Places.{length-tabulate, getD-tabulate}
 use Rattle.lists.specs.Tests.{and-left, and-right, fails-right, choice, choice-on}
 use Rattle.power.specs.Power.{tenths}
 use Rattle.power.specs.declared.Power.{Power}
@@ -29,7 +30,7 @@ use Rattle.table.specs.declared.form.StatusRead.{StatusRead}
 use Rattle.table.specs.declared.form.Table.{Table}
 use Rattle.table.specs.declared.form.Ticked.{Ticked}
 use Rattle.table.specs.declared.form.Told.{Told}
-use Rattle.cells.specs.Cells.{cellsLong, tableOf, isTable, cellsWith}
+use Rattle.cells.specs.Cells.{cellsLong, tableOf, isTable, isOfPort, written, cellsWith}
 use Rattle.cells.specs.Laws.{table-at}
 use Rattle.cells.specs.Lent.{cellsTold, cellsRead, cellsTicked, cellsCold}
 use Rattle.cells.specs.Round.{cells-table, cells-are, with-table, with-are}
@@ -245,6 +246,44 @@ module _ (l : List ℕ) where
 
 pub calls : Calls
 calls = record { cold-start = cold-fair; write-control = control-fair; read-status = status-fair; request = request-fair; tick = tick-fair }
+
+-- ---- include/ipaqsuni.h: "Places at or past the count .. never change. Reserved cells .. are never looked at or changed by any other call."
+
+-- a cell that is no field of a port below the count, nor the stored supply, is as it was after every call but a cold start or a restore
+pub record Untouched : Type 0 where
+  pub told : (told : Told) (l : List ℕ) (k : ℕ) → k < length l → isOfPort (told .table .count) k ≡ false → (k ≡ 1 → ⊥) → getD (cellsTold told l) k 0 ≡ getD l k 0
+  pub read : (told : StatusRead) (l : List ℕ) (k : ℕ) → k < length l → isOfPort (told .table .count) k ≡ false → (k ≡ 1 → ⊥) → getD (cellsRead told l) k 0 ≡ getD l k 0
+  pub ticked : (told : Ticked) (l : List ℕ) (k : ℕ) → k < length l → isOfPort (told .table .count) k ≡ false → (k ≡ 1 → ⊥) → getD (cellsTicked told l) k 0 ≡ getD l k 0
+
+module _ (t : Table) (l : List ℕ) (k : ℕ) (h : k < length l) (e : isOfPort (t .count) k ≡ false) (n : k ≡ 1 → ⊥) where
+  with-untouched : getD (cellsWith t l) k 0 ≡ getD l k 0
+  unfolding cellsWith written
+  with-untouched =
+      getD-tabulate (length (set l 1 (t .supply .0))) _ 0 k (omega (arith, length-set l 1 (t .supply .0)))
+      ∙ simp e (getD-set-other l 1 k (t .supply .0) 0 n)
+
+  told-untouched : (a : Answer) → getD (cellsTold (record { table = t; answer = a }) l) k 0 ≡ getD l k 0
+  unfolding cellsTold
+  told-untouched Done = with-untouched
+  told-untouched (Refused number) = refl
+
+  read-untouched : (a : Status) → getD (cellsRead (record { table = t; answer = a }) l) k 0 ≡ getD l k 0
+  unfolding cellsRead
+  read-untouched (Word w) = with-untouched
+  read-untouched (NoStatus number) = refl
+
+  ticked-untouched : (a : Closed) → getD (cellsTicked (record { table = t; answer = a }) l) k 0 ≡ getD l k 0
+  unfolding cellsTicked
+  ticked-untouched (Ports x y z) = with-untouched
+  ticked-untouched (NoTick number) = refl
+
+pub untouched : Untouched
+untouched =
+    record {
+      told = λ told l k h e n. told-untouched (told .table) l k h e n (told .answer);
+      read = λ told l k h e n. read-untouched (told .table) l k h e n (told .answer);
+      ticked = λ told l k h e n. ticked-untouched (told .table) l k h e n (told .answer);
+    }
 
 -- ---- save and restore
 
