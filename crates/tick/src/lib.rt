@@ -18,14 +18,28 @@ use table::form::Closed;
 use well::well_head;
 use well::well_made;
 ghost use mathlib.Core.Path.{_≡_};
-ghost use Prim.Native.Nat.{_≤_};
+ghost use mathlib.Core.Bool.{true, _&&_};
+ghost use Prim.Native.Nat.{_*_, _≤_};
+ghost use lib.Dec.{eqb};
 ghost use lib.ListN.{length};
 ghost use Rattle.cells.specs.Cells.{countCell};
 ghost use Rattle.cells.specs.Laws.{Holds};
 ghost use Rattle.cells.specs.Lent.{cellsTicked};
 ghost use Rattle.well.specs.Judged.{wellCells};
 ghost use Rattle.tick.specs.OnCells.{tickOn};
-ghost use Rattle.tick.specs.Passes.{Classes, refusalOf, flagLane, Ready, someAsk, movedOn, askedOn, sharedOn, movedCells, movedAnswer};
+ghost use Rattle.tick.specs.Passes.{Classes, flagsFine, refusalOf, flagLane, Ready, someAsk, movedOn, askedOn, sharedOn, movedCells, movedAnswer};
+
+// The flags of every port into the lane, of a block that is as long as it should be.
+fn flags_if(block: &[u8], n: usize, lane: &mut [u16]) -> bool
+    requires { ⌜ (n ≤ 48) × (length (now lane) ≡ 48) ⌝ }
+    ensures { λ r. ⌜ r ≡ (eqb (length (now (block .entry))) (14 * n) && flagsFine n (now (block .entry))) ⌝ }
+    ensures { λ r. ⌜ (r ≡ true → now (lane .exit) ≡ flagLane n (now (block .entry)) (now (lane .entry))) ⌝ }
+{
+    if block.len() != 14 * n {
+        return false;
+    }
+    flags_into(block, n, lane)
+}
 
 // The number of the refusal, 0 if nothing is refused: then the lane has the flags of every port. They are read before the ports are
 // tested, though looked at after: what was just written would have to be waited for.
@@ -38,12 +52,12 @@ fn refusal(cells: &[u16], block: &[u8], figure: u64, lane: &mut [u16]) -> u8
         return 13;
     }
     let n = cells[0] as usize;
-    if block.len() != 14 * n {
-        return if well_made(cells) { 1 } else { 13 };
-    }
-    let clean = flags_into(block, n, lane);
+    let clean = flags_if(block, n, lane);
     if !well_made(cells) {
         return 13;
+    }
+    if block.len() != 14 * n {
+        return 1;
     }
     let highest = Power::HIGHEST_SUPPLY.0;
     if figure > highest as u64 {

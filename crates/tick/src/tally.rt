@@ -73,26 +73,28 @@ pub fn sides(cells: &[u16], n: usize, lane: &mut [u16])
     }
 }
 
-fn at(lane: &[u16], p: usize) -> u16
+fn at(lane: &[u16], p: usize) -> u32
     requires { ⌜ (length (now lane) ≡ 48) × (p < 48) × Sided (now lane) ⌝ }
     ensures { λ r. ⌜ (r ≡ getD (now (lane .entry)) p 0) × (r ≤ 256) ⌝ }
 {
-    lane[p]
+    lane[p] as u32
 }
 
-// Eight ports in one number: those on A in its low byte, those on B in the high one.
+// Eight ports in one number: those on A in its low byte, those on B in the high one. Twice that is added up, so that all eight are
+// multiplied alike and a compiler takes them at once.
 fn eight(lane: &[u16], p: usize) -> u16
     requires { ⌜ (length (now lane) ≡ 48) × (p ≤ 40) × Sided (now lane) ⌝ }
     ensures { λ r. ⌜ r ≡ weighed (now (lane .entry)) p ⌝ }
 {
-    at(lane, p)
-        + at(lane, p + 1) * 2
-        + at(lane, p + 2) * 4
-        + at(lane, p + 3) * 8
-        + at(lane, p + 4) * 16
-        + at(lane, p + 5) * 32
-        + at(lane, p + 6) * 64
-        + at(lane, p + 7) * 128
+    let twice = at(lane, p) * 2
+        + at(lane, p + 1) * 4
+        + at(lane, p + 2) * 8
+        + at(lane, p + 3) * 16
+        + at(lane, p + 4) * 32
+        + at(lane, p + 5) * 64
+        + at(lane, p + 6) * 128
+        + at(lane, p + 7) * 256;
+    (twice / 2) as u16
 }
 
 // The mask with a byte more, above all that it has.

@@ -1,9 +1,9 @@
 -- `refusal` is `refusalOf`, and where nothing is refused the lane has the flags.
 -- Assumes nothing.
-use Prim.Native.Nat.{ℕ, _*_, _<_, _≤_}
 use mathlib.Core.Path.{_≡_, sym, _∙_, ap}
 use mathlib.Core.Bool.{Bool, true, false, _&&_}
 use mathlib.Core.List.{List}
+use Prim.Native.Nat.{ℕ, _*_}
 use native.Mathlib.Omega.{arith}
 use lib.ListN.{length}
 use borrow.Author.Needs.{needs}
@@ -28,46 +28,39 @@ refusal-spec =
     (tie.spec
     (λ c κs. search needs)
     (λ c.
-    let l = now (c .before .before .before .before .before .args .cells) in
-    let e = no-head l (sym (c .before .well-head .ensures) ∙ not-true _ (c .if1 .taken)) in
+    let e = no-head (now (c .before .before .before .before .before .args .cells)) (sym (c .before .well-head .ensures) ∙ not-true _ (c .if1 .taken)) in
     (simp e, λ z. absurd (omega arith)))
-    (λ c.
-    let l = now (c .before .before .before .before .before .before .args .cells) in
-    omega (arith, head-long l (sym (c .before .before .well-head .ensures) ∙ not-false _ (c .before .if1 .left))))
-    (λ c.
-    let l = now (c .before .before .before .before .before .before .args .cells) in
-    omega (arith, head-count l (sym (c .before .before .well-head .ensures) ∙ not-false _ (c .before .if1 .left))))
-    (λ c.
-    let l = now (c .before .before .before .before .before .before .args .cells) in
-    omega (arith, head-count l (sym (c .before .before .well-head .ensures) ∙ not-false _ (c .before .if1 .left))))
-    (λ c κs. search needs)
-    (λ c.
-    let e = sym (c .before .well-made .ensures) ∙ c .if3 .taken in
-    (simp (e, ne-eqb _ _ (c .before .before .if2 .taken)), λ z. absurd (omega arith)))
-    (λ c.
-    let e = sym (c .before .well-made .ensures) ∙ c .if3 .left in
-    (simp e, λ z. absurd (omega arith)))
-    (λ c κs.
-    let s = c .before .before .before .before .before .before .before .before in
-    let l = now (s .args .cells) in
-    (c .before .if2 .left, head-count l (sym (c .before .before .before .before .well-head .ensures) ∙ not-false _ (c .before .before .before .if1 .left)), s .pre))
+    (λ c. omega (arith, head-long (now (c .before .before .before .before .before .before .args .cells)) (sym (c .before .before .well-head .ensures) ∙ not-false _ (c .before .if1 .left))))
+    (λ c. omega (arith, head-count (now (c .before .before .before .before .before .before .args .cells)) (sym (c .before .before .well-head .ensures) ∙ not-false _ (c .before .if1 .left))))
+    (λ c κs. (head-count (now (c .before .before .before .before .before .before .before .args .cells)) (sym (c .before .before .before .well-head .ensures) ∙ not-false _ (c .before .before .if1 .left)), c .before .before .before .before .before .before .before .pre))
     (λ c κs. search needs)
     (λ c. search needs)
     (λ c.
-    let e = sym (c .before .well-made2 .ensures) ∙ not-true _ (c .if4 .taken) in
+    let e = sym (c .before .well-made .ensures) ∙ not-true _ (c .if2 .taken) in
     (simp e, λ z. absurd (omega arith)))
+    (λ c. omega (arith, head-count (now (c .before .before .before .before .before .before .before .before .before .before .before .before .args .cells)) (sym (c .before .before .before .before .before .before .before .before .well-head .ensures) ∙ not-false _ (c .before .before .before .before .before .before .before .if1 .left))))
+    (λ c. search needs)
+    (λ c.
+    let e = sym (c .before .before .well-made .ensures) ∙ not-false _ (c .before .if2 .left) in
+    (simp (e, ne-eqb _ _ (c .if3 .taken)), λ z. absurd (omega arith)))
     (λ c. search needs)
     (λ c. search needs)
     (λ c.
-    let e = sym (c .before .before .well-made2 .ensures) ∙ not-false _ (c .before .if4 .left) in
-    (simp (e, eq-eqb _ _ (c .before .before .before .before .before .before .before .if2 .left), lt-ltb _ _ (c .if5 .taken)), λ z. absurd (omega arith)))
+    let e = sym (c .before .before .before .well-made .ensures) ∙ not-false _ (c .before .before .if2 .left) in
+    (simp (e, eq-eqb _ _ (c .before .if3 .left), lt-ltb _ _ (c .if4 .taken)), λ z. absurd (omega arith)))
     (λ c. search needs)
     (λ c.
-    let e = sym (c .before .before .before .well-made2 .ensures) ∙ not-false _ (c .before .before .if4 .left) in
-    let f = sym (c .before .before .before .before .before .before .flags-into .ensures .0) ∙ c .if6 .taken in
-    (simp (e, eq-eqb _ _ (c .before .before .before .before .before .before .before .before .if2 .left), le-ltb _ _ (c .before .if5 .left), f), λ z. c .before .before .before .before .before .before .flags-into .ensures .1 f))
+    let a = c .before .before .before .before .before .before .before .before .before .before .before .before .before .before .before .args in
+    let e = sym (c .before .before .before .before .well-made .ensures) ∙ not-false _ (c .before .before .before .if2 .left) in
+    let long = eq-eqb _ _ (c .before .before .if3 .left) in
+    let f : flagsFine (countCell (now (a .cells))) (now (a .block)) ≡ true =
+    ap (λ (b : Bool). b && flagsFine (countCell (now (a .cells))) (now (a .block))) (sym long) ∙ sym (c .before .before .before .before .before .before .before .flags-if .ensures .0) ∙ c .if5 .taken in
+    (simp (e, long, le-ltb _ _ (c .before .if4 .left), f), λ z. c .before .before .before .before .before .before .before .flags-if .ensures .1 (c .if5 .taken)))
     (λ c. search needs)
     (λ c.
-    let e = sym (c .before .before .before .well-made2 .ensures) ∙ not-false _ (c .before .before .if4 .left) in
-    let f = sym (c .before .before .before .before .before .before .flags-into .ensures .0) ∙ c .if6 .left in
-    (simp (e, eq-eqb _ _ (c .before .before .before .before .before .before .before .before .if2 .left), le-ltb _ _ (c .before .if5 .left), f), λ z. absurd (omega arith))))
+    let a = c .before .before .before .before .before .before .before .before .before .before .before .before .before .before .before .args in
+    let e = sym (c .before .before .before .before .well-made .ensures) ∙ not-false _ (c .before .before .before .if2 .left) in
+    let long = eq-eqb _ _ (c .before .before .if3 .left) in
+    let f : flagsFine (countCell (now (a .cells))) (now (a .block)) ≡ false =
+    ap (λ (b : Bool). b && flagsFine (countCell (now (a .cells))) (now (a .block))) (sym long) ∙ sym (c .before .before .before .before .before .before .before .flags-if .ensures .0) ∙ c .if5 .left in
+    (simp (e, long, le-ltb _ _ (c .before .if4 .left), f), λ z. absurd (omega arith))))

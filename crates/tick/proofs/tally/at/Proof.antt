@@ -1,6 +1,7 @@
 -- `at` reads the lane; a side is at most 256.
 -- Assumes nothing.
 use mathlib.Core.Path.{refl}
+use native.Mathlib.Omega.{arith}
 use borrow.Author.Needs.{needs}
 use Rattle.tick.specs.Tally.{side-small}
 use Rattle.tick.proofs.tally.at.Statement.{statement}
@@ -12,4 +13,5 @@ at-spec =
     (tie.spec
     (λ c. search needs)
     (λ c. search needs)
+    (λ c. omega (arith, side-small _ (c .before .pre .2 (c .before .args .p) (c .before .pre .1))))
     (λ c. (refl, side-small _ (c .before .pre .2 (c .before .args .p) (c .before .pre .1)))))
