@@ -215,17 +215,17 @@ pub writes-written : (n : ℕ) (f f′ : ℕ → Port) (l : List ℕ) (vs : List
 writes-written n f f′ l vs b p few long hp fits out in′ rest =
     is-written n f′ l (writes vs b p (written n f l)) few long (length-writes vs b p (written n f l) ∙ written-long n f l) ours others
   where
-    now : List ℕ
-    now = writes vs b p (written n f l)
+    then : List ℕ
+    then = writes vs b p (written n f l)
 
     -- a field of p that is not written
-    left : (g : ℕ) → g < 12 → (g < b) ⊎ (b + length vs ≤ g) → getD now (8 + 48 * g + p) 0 ≡ getD (fieldsOf (f′ p)) g 0
+    left : (g : ℕ) → g < 12 → (g < b) ⊎ (b + length vs ≤ g) → getD then (8 + 48 * g + p) 0 ≡ getD (fieldsOf (f′ p)) g 0
     left g hg s =
         writes-other vs b p (written n f l) (8 + 48 * g + p) (λ j e m o. ⊎-elim (λ (x : g < b). omega arith) (λ (x : b + length vs ≤ g). omega arith) s)
         ∙ written-field n f l few long p g hp hg
         ∙ sym (out g hg s)
 
-    mine : (g : ℕ) → g < 12 → getD now (8 + 48 * g + p) 0 ≡ getD (fieldsOf (f′ p)) g 0
+    mine : (g : ℕ) → g < 12 → getD then (8 + 48 * g + p) 0 ≡ getD (fieldsOf (f′ p)) g 0
     mine g hg =
         ⊎-elim
         (λ (x : g < b). left g hg (inl x))
@@ -233,7 +233,7 @@ writes-written n f f′ l vs b p few long hp fits out in′ rest =
         ⊎-elim
         (λ (y : g < b + length vs).
         let e : b + (g - b) ≡ g = omega arith in
-        ap (λ (j : ℕ). getD now (8 + 48 * j + p) 0) (sym e)
+        ap (λ (j : ℕ). getD then (8 + 48 * j + p) 0) (sym e)
         ∙ writes-at vs b p (written n f l) (g - b) (omega arith) (omega (arith, written-long n f l))
         ∙ sym (in′ (g - b) (omega arith))
         ∙ ap (λ (j : ℕ). getD (fieldsOf (f′ p)) j 0) e)
@@ -241,24 +241,24 @@ writes-written n f f′ l vs b p few long hp fits out in′ rest =
         (side g (b + length vs)))
         (side g b)
 
-    ours : (q g : ℕ) → q < n → g < 12 → getD now (8 + 48 * g + q) 0 ≡ getD (fieldsOf (f′ q)) g 0
+    ours : (q g : ℕ) → q < n → g < 12 → getD then (8 + 48 * g + q) 0 ≡ getD (fieldsOf (f′ q)) g 0
     ours q g hq hg =
         ⊎-elim
         (λ (x : q < p). theirs (λ e. omega arith))
         (λ (x : p ≤ q).
         ⊎-elim
-        (λ (e : p ≡ q). subst (λ (x : ℕ). getD now (8 + 48 * g + x) 0 ≡ getD (fieldsOf (f′ x)) g 0) e (mine g hg))
+        (λ (e : p ≡ q). subst (λ (x : ℕ). getD then (8 + 48 * g + x) 0 ≡ getD (fieldsOf (f′ x)) g 0) e (mine g hg))
         (λ (y : p < q). theirs (λ e. omega arith))
         (eq-or-lt-of-le {n = p} {m = q} x))
         (side q p)
       where
-        theirs : (q ≡ p → ⊥) → getD now (8 + 48 * g + q) 0 ≡ getD (fieldsOf (f′ q)) g 0
+        theirs : (q ≡ p → ⊥) → getD then (8 + 48 * g + q) 0 ≡ getD (fieldsOf (f′ q)) g 0
         theirs apart =
             writes-other vs b p (written n f l) (8 + 48 * g + q) (λ j e m o. apart (omega arith))
             ∙ written-field n f l few long q g hq hg
             ∙ ap (λ (x : Port). getD (fieldsOf x) g 0) (sym (rest q hq apart))
 
-    others : (k : ℕ) → k < length l → isOfPort n k ≡ false → getD now k 0 ≡ getD l k 0
+    others : (k : ℕ) → k < length l → isOfPort n k ≡ false → getD then k 0 ≡ getD l k 0
     others k h e =
         writes-other vs b p (written n f l) k (λ j a m o. not-a-port n k p j few hp a (omega arith) e)
         ∙ written-else n f l k h e
