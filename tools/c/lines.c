@@ -5,8 +5,9 @@
  * A number past 32 bits goes into a call as 4294967295: as a port, a port count, a control word, a request, a supply figure, a code
  * or a power value it is then refused as the number itself is.
  *
- * After each refusal everything that was lent is compared with what it was; a difference ends the program with status 1. So does a
- * written TLV of another length than its form's, which no answer shows.
+ * The held table is so many cells at the front of a room for 1,024. Every call is lent these, and the cells past them must stay as
+ * they were, whatever it answers. After each refusal everything that was lent is compared with what it was; a difference ends the
+ * program with status 1. So does a written TLV of another length than its form's, which no answer shows.
  */
 #include "lines.h"
 
@@ -20,6 +21,7 @@
 #define LONGEST_LINE 8192
 #define LONGEST_ROOM 2048
 #define MOST_WORDS 11
+#define MOST_CELLS 1024
 #define MARK 0x5a5a5a5a5a5a5a5aU
 
 struct word {
@@ -27,7 +29,8 @@ struct word {
     size_t n;
 };
 
-static uint8_t table[IPAQSUNI_TABLE], before[IPAQSUNI_TABLE];
+static uint16_t cells[MOST_CELLS], before[MOST_CELLS];
+static size_t held = IPAQSUNI_CELLS;
 static uint8_t data[LONGEST_LINE / 2];
 static uint8_t room[LONGEST_ROOM];
 static struct word words[MOST_WORDS];
@@ -97,18 +100,11 @@ static void show(const uint8_t *bytes, size_t n) {
     printf("\n");
 }
 
-/* An image's form: each state up to 9, no latch bit over 5, a supply of 16 bits. */
-static int is_image(size_t n) {
-    if (n != IPAQSUNI_TABLE || data[2] != 0 || data[3] != 0)
-        return 0;
-    for (size_t p = 6; p < IPAQSUNI_TABLE; p += 21)
-        if (data[p] > 9 || data[p + 6] > 63)
-            return 0;
-    return 1;
-}
+/* The cells from the first to the last of them are what they were before the call. */
+static int untouched(size_t first) { return memcmp(cells + first, before + first, sizeof cells - first * sizeof *cells) == 0; }
 
 static void refused(uint32_t answer) {
-    if (memcmp(table, before, sizeof table) != 0)
+    if (!untouched(0))
         wrote("the table");
     printf("refused %" PRIu32 "\n", answer);
 }
@@ -120,9 +116,58 @@ static void answered(uint32_t answer) {
         printf("ok\n");
 }
 
+/* "the held table becomes its 728 cells", however many were held */
+static void restore(size_t n) {
+    if (ipaqsuni_restore(cells, IPAQSUNI_CELLS, data, n) == IPAQSUNI_OK) {
+        held = IPAQSUNI_CELLS;
+        printf("ok\n");
+        return;
+    }
+    if (!untouched(0))
+        wrote("the table");
+    printf("bad image\n");
+}
+
+static void dump(void) {
+    static uint8_t image[IPAQSUNI_IMAGE];
+    memset(image, (uint8_t)MARK, sizeof image);
+    uint32_t answer = ipaqsuni_save(cells, held, image, sizeof image);
+    if (!untouched(0))
+        wrote("the table, or a save did");
+    if (answer == IPAQSUNI_OK) {
+        show(image, sizeof image);
+        return;
+    }
+    for (size_t i = 0; i < sizeof image; i++)
+        if (image[i] != (uint8_t)MARK)
+            wrote("the image");
+    printf("bad image\n");
+}
+
+/* Two bytes a cell. */
+static int hold(size_t n) {
+    if (n % 2 != 0 || n / 2 > MOST_CELLS)
+        return 0;
+    held = n / 2;
+    for (size_t i = 0; i < held; i++)
+        cells[i] = (uint16_t)(data[2 * i] << 8 | data[2 * i + 1]);
+    printf("ok\n");
+    return 1;
+}
+
+static void show_cells(void) {
+    static uint8_t bytes[2 * MOST_CELLS];
+    for (size_t i = 0; i < held; i++) {
+        bytes[2 * i] = (uint8_t)(cells[i] >> 8);
+        bytes[2 * i + 1] = (uint8_t)cells[i];
+    }
+    printf("cells ");
+    show(bytes, 2 * held);
+}
+
 static void status(uint32_t port) {
     uint32_t word = (uint32_t)MARK;
-    uint32_t answer = ipaqsuni_read_status(table, sizeof table, port, &word);
+    uint32_t answer = ipaqsuni_read_status(cells, held, port, &word);
     if (answer == IPAQSUNI_OK) {
         printf("status %" PRIu32 "\n", word);
         return;
@@ -135,7 +180,7 @@ static void status(uint32_t port) {
 static void tick(uint32_t supply, size_t n) {
     uint64_t a = MARK, b = MARK;
     uint32_t closed = (uint32_t)MARK;
-    uint32_t answer = ipaqsuni_tick(table, sizeof table, data, n, supply, &a, &b, &closed);
+    uint32_t answer = ipaqsuni_tick(cells, held, data, n, supply, &a, &b, &closed);
     if (answer == IPAQSUNI_OK) {
         printf("ticked %" PRIu64 " %" PRIu64 " %" PRIu32 "\n", a, b, closed);
         return;
@@ -211,24 +256,24 @@ static int is(const char *name) { return words[0].n == strlen(name) && memcmp(wo
 static int call(void) {
     uint64_t n[2];
     size_t bytes;
-    memcpy(before, table, sizeof table);
     if (is("cold") && numbers(1, n))
-        return answered(ipaqsuni_cold_start(table, sizeof table, narrow(n[0]))), 1;
+        return answered(ipaqsuni_cold_start(cells, held, narrow(n[0]))), 1;
     if (is("control") && numbers(2, n))
-        return answered(ipaqsuni_write_control(table, sizeof table, narrow(n[0]), narrow(n[1]))), 1;
+        return answered(ipaqsuni_write_control(cells, held, narrow(n[0]), narrow(n[1]))), 1;
     if (is("request") && numbers(2, n))
-        return answered(ipaqsuni_request(table, sizeof table, narrow(n[0]), narrow(n[1]))), 1;
+        return answered(ipaqsuni_request(cells, held, narrow(n[0]), narrow(n[1]))), 1;
     if (is("status") && numbers(1, n))
         return status(narrow(n[0])), 1;
     if (is("tick") && count == 3 && number(words[1], n) && hex(words[2], &bytes))
         return tick(narrow(n[0]), bytes), 1;
-    if (is("table") && count == 2 && hex(words[1], &bytes)) {
-        if (is_image(bytes))
-            memcpy(table, data, sizeof table);
-        return printf(is_image(bytes) ? "ok\n" : "bad image\n"), 1;
-    }
+    if (is("table") && count == 2 && hex(words[1], &bytes))
+        return restore(bytes), 1;
     if (is("dump") && count == 1)
-        return show(table, sizeof table), 1;
+        return dump(), 1;
+    if (is("cells") && count == 2 && hex(words[1], &bytes))
+        return hold(bytes);
+    if (is("show") && count == 1)
+        return show_cells(), 1;
     if (is("search") && count == 2 && hex(words[1], &bytes))
         return search(bytes), 1;
     if (is("read") && count == 2 && hex(words[1], &bytes))
@@ -256,8 +301,12 @@ static void answer(const uint8_t *line, size_t n) {
             words[count++] = (struct word){line + from, i - from};
         from = i + 1;
     }
+    size_t lent = held;
+    memcpy(before, cells, sizeof cells);
     if (!good || !call())
         printf("bad line\n");
+    if (!untouched(held > lent ? held : lent))
+        wrote("past the table, or a call did");
 }
 
 int lines(void) {

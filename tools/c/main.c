@@ -1,7 +1,7 @@
 /*
- * A port from a cold start to power and shed again, another on alternative B whose requests are answered, and a power TLV read and
- * written, through the C interface. Every answer is compared with the one that document 01 gives; a difference is an exit status
- * of 1.
+ * A port from a cold start to power and shed again, another on alternative B whose requests are answered, a table saved and
+ * restored, and a power TLV read and written, through the C interface. Every answer is compared with the one that document 01 gives;
+ * a difference is an exit status of 1.
  *
  *     ipaqsuni            the demonstration
  *     ipaqsuni lines      answers the console's lines (lines.c)
@@ -27,7 +27,7 @@ static void same(const char *what, const void *got, const void *wanted, size_t n
     is(what, memcmp(got, wanted, n) == 0, 1);
 }
 
-static uint8_t table[IPAQSUNI_TABLE];
+static struct ipaqsuni_table table;
 
 /* V1 4,000 mV, V2 5,900 mV, I1 0, I2 100 uA, detection done: 1,900/100 is valid. */
 static const uint8_t detected[IPAQSUNI_SAMPLE] = {0x0f, 0xa0, 0x17, 0x0c, 0, 0, 0, 100, 0, 0, 0, 0, 0, 1};
@@ -37,10 +37,11 @@ static void tick(const char *what, uint32_t supply, const uint8_t *samples, size
     uint64_t a = 77, b = 77;
     uint32_t number = 77;
     printf("%s\n", what);
-    is("  tick", ipaqsuni_tick(table, sizeof table, samples, n, supply, &a, &b, &number), IPAQSUNI_OK);
+    is("  tick", ipaqsuni_tick(IPAQSUNI_LENT(&table), samples, n, supply, &a, &b, &number), IPAQSUNI_OK);
     is("  mask a", a, mask_a);
     is("  mask b", b, mask_b);
     is("  closed", number, closed);
+    is("  stored supply", table.supply, supply);
 }
 
 static void shed(void) {
@@ -50,45 +51,51 @@ static void shed(void) {
     static const uint8_t settled[IPAQSUNI_SAMPLE] = {0, 0, 0, 0, 0, 0, 0, 0, 0, 0, 0, 0, 0, 0x24};
     uint32_t status = 77;
 
-    is("cold start of 1 port", ipaqsuni_cold_start(table, sizeof table, 1), IPAQSUNI_OK);
-    is("control: enabled, alternative A", ipaqsuni_write_control(table, sizeof table, 0, 0x0005), IPAQSUNI_OK);
+    is("cold start of 1 port", ipaqsuni_cold_start(IPAQSUNI_LENT(&table), 1), IPAQSUNI_OK);
+    is("control: enabled, alternative A", ipaqsuni_write_control(IPAQSUNI_LENT(&table), 0, 0x0005), IPAQSUNI_OK);
     tick("DISABLED goes to IDLE", 154, still, IPAQSUNI_SAMPLE, 0, 0, 0);
     tick("IDLE goes to DETECTING", 154, still, IPAQSUNI_SAMPLE, 0, 0, 0);
     tick("a valid signature goes to CLASSIFYING", 154, detected, IPAQSUNI_SAMPLE, 0, 0, 0);
     tick("class 1 goes to POWER_UP: the port is closed", 154, classified, IPAQSUNI_SAMPLE, 1, 0, 1);
     tick("settled goes to POWER_ON", 154, settled, IPAQSUNI_SAMPLE, 1, 0, 1);
-    is("request of 39: 7.0 W", ipaqsuni_request(table, sizeof table, 0, 39), IPAQSUNI_OVER_CLASS);
+    is("request of 39: 7.0 W", ipaqsuni_request(IPAQSUNI_LENT(&table), 0, 39), IPAQSUNI_OVER_CLASS);
     tick("a supply of 3.9 W sheds 4.0 W", 39, settled, IPAQSUNI_SAMPLE, 0, 0, 0);
     /* Latches 12 denied and 11 valid signature, class 1, condition 1, bit 0. */
-    is("status", ipaqsuni_read_status(table, sizeof table, 0, &status), IPAQSUNI_OK);
+    is("state", table.state[0], IPAQSUNI_STATE_IDLE);
+    is("latches", table.latches[0], IPAQSUNI_LATCH_DENIED | IPAQSUNI_LATCH_VALID);
+    is("status", ipaqsuni_read_status(IPAQSUNI_LENT(&table), 0, &status), IPAQSUNI_OK);
     is("  word", status, 0x1813);
-    is("status again", ipaqsuni_read_status(table, sizeof table, 0, &status), IPAQSUNI_OK);
+    is("status again", ipaqsuni_read_status(IPAQSUNI_LENT(&table), 0, &status), IPAQSUNI_OK);
     is("  word without latches", status, 0x0013);
+    is("latches", table.latches[0], 0);
 }
 
 /* Each refusal leaves the table and the places for answers as they were. */
 static void refusals(void) {
-    uint8_t before[IPAQSUNI_TABLE], samples[IPAQSUNI_SAMPLE] = {0};
+    struct ipaqsuni_table before = table;
+    uint8_t samples[IPAQSUNI_SAMPLE] = {0};
     uint64_t a = 77, b = 77;
     uint32_t n = 77, status = 77;
 
-    memcpy(before, table, sizeof table);
-    is("cold start of 49 ports", ipaqsuni_cold_start(table, sizeof table, IPAQSUNI_PORTS + 1), IPAQSUNI_NO_SUCH_PORT);
-    is("cold start in 1,013 bytes", ipaqsuni_cold_start(table, sizeof table - 1, 1), IPAQSUNI_ILL_MADE);
-    is("control of port 1", ipaqsuni_write_control(table, sizeof table, 1, 0x0005), IPAQSUNI_NO_SUCH_PORT);
-    is("control with enable 11", ipaqsuni_write_control(table, sizeof table, 0, 0x0007), IPAQSUNI_RESERVED);
-    is("control to alternative B", ipaqsuni_write_control(table, sizeof table, 0, 0x0009), IPAQSUNI_WRONG_STATE);
-    is("status of port 1", ipaqsuni_read_status(table, sizeof table, 1, &status), IPAQSUNI_NO_SUCH_PORT);
-    is("request of 256", ipaqsuni_request(table, sizeof table, 0, 256), IPAQSUNI_BAD_VALUE);
-    is("request in IDLE", ipaqsuni_request(table, sizeof table, 0, 1), IPAQSUNI_WRONG_STATE);
-    is("tick on 13 bytes", ipaqsuni_tick(table, sizeof table, samples, sizeof samples - 1, 154, &a, &b, &n), IPAQSUNI_BAD_LENGTH);
-    is("tick at 60,001", ipaqsuni_tick(table, sizeof table, samples, sizeof samples, 60001, &a, &b, &n), IPAQSUNI_SUPPLY_TOO_LARGE);
+    is("cold start of 49 ports", ipaqsuni_cold_start(IPAQSUNI_LENT(&table), IPAQSUNI_PORTS + 1), IPAQSUNI_NO_SUCH_PORT);
+    is("cold start in 727 cells", ipaqsuni_cold_start((uint16_t *)&table, IPAQSUNI_CELLS - 1, 1), IPAQSUNI_ILL_MADE);
+    is("control of port 1", ipaqsuni_write_control(IPAQSUNI_LENT(&table), 1, 0x0005), IPAQSUNI_NO_SUCH_PORT);
+    is("control with enable 11", ipaqsuni_write_control(IPAQSUNI_LENT(&table), 0, 0x0007), IPAQSUNI_RESERVED);
+    is("control to alternative B", ipaqsuni_write_control(IPAQSUNI_LENT(&table), 0, 0x0009), IPAQSUNI_WRONG_STATE);
+    is("status of port 1", ipaqsuni_read_status(IPAQSUNI_LENT(&table), 1, &status), IPAQSUNI_NO_SUCH_PORT);
+    is("request of 256", ipaqsuni_request(IPAQSUNI_LENT(&table), 0, 256), IPAQSUNI_BAD_VALUE);
+    is("request in IDLE", ipaqsuni_request(IPAQSUNI_LENT(&table), 0, 1), IPAQSUNI_WRONG_STATE);
+    is("tick on 13 bytes", ipaqsuni_tick(IPAQSUNI_LENT(&table), samples, sizeof samples - 1, 154, &a, &b, &n), IPAQSUNI_BAD_LENGTH);
+    is("tick at 60,001", ipaqsuni_tick(IPAQSUNI_LENT(&table), samples, sizeof samples, 60001, &a, &b, &n), IPAQSUNI_SUPPLY_TOO_LARGE);
     samples[IPAQSUNI_SAMPLE - 1] = 0x40;
-    is("tick with flag 6", ipaqsuni_tick(table, sizeof table, samples, sizeof samples, 154, &a, &b, &n), IPAQSUNI_RESERVED);
-    same("the table is as it was", table, before, sizeof table);
-    /* Byte 6 is port 0's state. */
-    before[6] = 10;
-    is("tick of a state 10", ipaqsuni_tick(before, sizeof before, samples, sizeof samples, 154, &a, &b, &n), IPAQSUNI_ILL_MADE);
+    is("tick with flag 6", ipaqsuni_tick(IPAQSUNI_LENT(&table), samples, sizeof samples, 154, &a, &b, &n), IPAQSUNI_RESERVED);
+    is("tick on 727 cells", ipaqsuni_tick((uint16_t *)&table, IPAQSUNI_CELLS - 1, samples, sizeof samples, 154, &a, &b, &n),
+       IPAQSUNI_ILL_MADE);
+    same("the table is as it was", &table, &before, sizeof table);
+    table.state[0] = before.state[0] = 10;
+    is("tick of a state 10", ipaqsuni_tick(IPAQSUNI_LENT(&table), samples, sizeof samples, 154, &a, &b, &n), IPAQSUNI_ILL_MADE);
+    is("status in a state 10", ipaqsuni_read_status(IPAQSUNI_LENT(&table), 0, &status), IPAQSUNI_ILL_MADE);
+    same("the table is as it was", &table, &before, sizeof table);
     is("the places for answers are as they were", a == 77 && b == 77 && n == 77 && status == 77, 1);
 }
 
@@ -106,26 +113,61 @@ static void requests(void) {
     static const uint8_t settled[IPAQSUNI_SAMPLE] = {0, 0, 0, 0, 0, 0, 0, 0, 0, 0, 0, 0, 0, 0x24};
     uint32_t status = 77;
 
-    is("cold start of 3 ports", ipaqsuni_cold_start(table, sizeof table, 3), IPAQSUNI_OK);
-    is("control of port 2: enabled, alternative B", ipaqsuni_write_control(table, sizeof table, 2, 0x0009), IPAQSUNI_OK);
+    is("cold start of 3 ports", ipaqsuni_cold_start(IPAQSUNI_LENT(&table), 3), IPAQSUNI_OK);
+    is("control of port 2: enabled, alternative B", ipaqsuni_write_control(IPAQSUNI_LENT(&table), 2, 0x0009), IPAQSUNI_OK);
     tick_last("port 2 goes to IDLE", 300, still, 0);
     tick_last("port 2 goes to DETECTING", 300, still, 0);
     tick_last("port 2 goes to CLASSIFYING", 300, detected, 0);
     tick_last("class 4 goes to POWER_UP", 300, classified, 1);
-    is("request in POWER_UP", ipaqsuni_request(table, sizeof table, 2, 38), IPAQSUNI_WRONG_STATE);
+    is("request in POWER_UP", ipaqsuni_request(IPAQSUNI_LENT(&table), 2, 38), IPAQSUNI_WRONG_STATE);
     tick_last("settled goes to POWER_ON", 300, settled, 1);
-    is("request of 38: 4.0 W", ipaqsuni_request(table, sizeof table, 2, 38), IPAQSUNI_OK);
+    is("request of 38: 4.0 W", ipaqsuni_request(IPAQSUNI_LENT(&table), 2, 38), IPAQSUNI_OK);
     tick_last("a supply of 4.0 W keeps it", 40, settled, 1);
     tick_last("a supply of 29.9 W keeps it", 299, settled, 1);
-    is("request of 130: 30.0 W", ipaqsuni_request(table, sizeof table, 2, 130), IPAQSUNI_OVER_SUPPLY);
-    is("request of 129: 15.4 W", ipaqsuni_request(table, sizeof table, 2, 129), IPAQSUNI_OK);
+    is("request of 130: 30.0 W", ipaqsuni_request(IPAQSUNI_LENT(&table), 2, 130), IPAQSUNI_OVER_SUPPLY);
+    is("request of 129: 15.4 W", ipaqsuni_request(IPAQSUNI_LENT(&table), 2, 129), IPAQSUNI_OK);
     /* Latch 11 valid signature, class 4, condition 2, bit 0. */
-    is("status of port 2", ipaqsuni_read_status(table, sizeof table, 2, &status), IPAQSUNI_OK);
+    is("status of port 2", ipaqsuni_read_status(IPAQSUNI_LENT(&table), 2, &status), IPAQSUNI_OK);
     is("  word", status, 0x0845);
     tick_last("a supply of 15.3 W sheds it", 153, settled, 0);
     /* Latch 12 denied, class 4, condition 1, bit 0. */
-    is("status of port 2", ipaqsuni_read_status(table, sizeof table, 2, &status), IPAQSUNI_OK);
+    is("status of port 2", ipaqsuni_read_status(IPAQSUNI_LENT(&table), 2, &status), IPAQSUNI_OK);
     is("  word", status, 0x1043);
+}
+
+/* The table that was left, through its image, and past the count whatever stands there. */
+static void images(void) {
+    static uint8_t image[IPAQSUNI_IMAGE], blank[IPAQSUNI_IMAGE];
+    static struct ipaqsuni_table restored;
+    struct ipaqsuni_table before = table;
+    uint32_t status = 77;
+
+    memset(image, 0xa5, sizeof image);
+    memset(blank, 0xa5, sizeof blank);
+    is("save in 1,013 bytes", ipaqsuni_save(IPAQSUNI_LENT(&table), image, sizeof image - 1), IPAQSUNI_BAD_LENGTH);
+    is("save of 727 cells", ipaqsuni_save((uint16_t *)&table, IPAQSUNI_CELLS - 1, image, sizeof image), IPAQSUNI_ILL_MADE);
+    table.state[47] = 10;
+    is("save of a state 10 past the count", ipaqsuni_save(IPAQSUNI_LENT(&table), image, sizeof image), IPAQSUNI_ILL_MADE);
+    same("the image is as it was", image, blank, sizeof image);
+    is("status, beside that state", ipaqsuni_read_status(IPAQSUNI_LENT(&table), 2, &status), IPAQSUNI_OK);
+    is("  word", status, 0x0043);
+    is("the state past the count", table.state[47], 10);
+    table.state[47] = before.state[47];
+    same("the table is as it was", &table, &before, sizeof table);
+    is("save", ipaqsuni_save(IPAQSUNI_LENT(&table), image, sizeof image), IPAQSUNI_OK);
+    is("  count", image[1], 3);
+    /* 6 bytes of head and 21 a port; the control word is a port's bytes 1 and 2. */
+    is("  control of port 2", image[6 + 2 * 21 + 2], 0x0009);
+    memset(&restored, 0xa5, sizeof restored);
+    is("restore in 727 cells", ipaqsuni_restore((uint16_t *)&restored, IPAQSUNI_CELLS - 1, image, sizeof image),
+       IPAQSUNI_ILL_MADE);
+    is("restore of 1,013 bytes", ipaqsuni_restore(IPAQSUNI_LENT(&restored), image, sizeof image - 1), IPAQSUNI_ILL_MADE);
+    image[6] = 10;
+    is("restore of a state 10", ipaqsuni_restore(IPAQSUNI_LENT(&restored), image, sizeof image), IPAQSUNI_ILL_MADE);
+    is("the cells are as they were", restored.count == 0xa5a5 && restored.state[0] == 0xa5a5 && restored.reserved[2][47] == 0xa5a5, 1);
+    image[6] = IPAQSUNI_STATE_DISABLED;
+    is("restore", ipaqsuni_restore(IPAQSUNI_LENT(&restored), image, sizeof image), IPAQSUNI_OK);
+    same("  the same table", &restored, &table, sizeof table);
 }
 
 static void frames(void) {
@@ -176,6 +218,7 @@ int main(int argc, char **argv) {
     shed();
     refusals();
     requests();
+    images();
     frames();
     return differences;
 }

@@ -1,95 +1,74 @@
-// The calls of the management side: cold start, control write, status read and request.
-mod answers;
-
-use crate::answers::done;
-use crate::answers::port_at;
-use crate::answers::refuse;
-use crate::answers::refuse_status;
-use crate::answers::tells;
-use crate::answers::with_port;
-use port::closed::is_closed;
-use port::form::Counts;
-use port::form::Port;
+// The calls of the management side, on the cells that a caller lends: cold start, control write, status read and request. Each changes
+// the cells where they stand, and a refusal none of them.
+use cells::latches_of;
+use cells::state_of;
 use port::form::State;
 use power::Power;
 use power::Sum;
 use reading::class::budget;
-use table::form::StatusRead;
-use table::form::Table;
-use table::form::Told;
-use table::well_made::well_made;
+use table::form::Answer;
+use table::form::Status;
+use well::well_made;
 use words::status::Condition;
-use words::status::Latches;
 use words::status::status_word;
 ghost use mathlib.Core.Path.{_≡_};
 ghost use mathlib.Core.Bool.{cond, _||_};
-ghost use Prim.Native.Nat.{_<_, _≤_, _^_};
+ghost use Prim.Native.Nat.{_<_, _^_};
+ghost use lib.ListN.{length};
 ghost use Rattle.power.specs.Power.{sumOf};
-ghost use Rattle.port.specs.States.{inDisabled, condition, inPowerOn};
-ghost use lib.ListN.{drop};
-ghost use Rattle.lists.specs.Ladder.{ladder};
-ghost use Rattle.calls.specs.Calls.{coldTable, coldStart, sameAlternative, withControl, controlRefusals, writeControl, unlatched, statusAt, readStatus, levelOf, demanding, granting, overSupply, requestRefusals, request};
-ghost use Rattle.table.specs.Drawn.{draws, closedSum};
-ghost use Rattle.table.specs.Form.{portAt, withPort, done, refuse};
+ghost use Rattle.words.specs.Status.{statusWord};
+ghost use Rattle.port.specs.States.{closed, condition, inDisabled};
+ghost use Rattle.table.specs.Drawn.{closedSum};
+ghost use Rattle.table.specs.Form.{portAt};
+ghost use Rattle.cells.specs.Cells.{cellsLong, tableOf, cellsOf};
+ghost use Rattle.cells.specs.Codes.{stateOf};
+ghost use Rattle.cells.specs.Lent.{cellsTold, cellsRead, cellsCold};
+ghost use Rattle.calls.specs.Calls.{coldTable, sameAlternative, levelOf, granting, overSupply};
+ghost use Rattle.calls.specs.Cold.{coldCell};
+ghost use Rattle.calls.specs.OnCells.{startOn, controlOn, statusOn, requestOn};
+ghost use Rattle.calls.specs.OnLaws.{AtPort, controlRest, requestRest};
 
-const COLD: Port = Port {
-    state: State::Disabled,
-    class: 0,
-    control: 0x0004,
-    demand: Power::ZERO,
-    latches: Latches::NONE,
-    counts: Counts {
-        detection: 0,
-        backoff: 0,
-        error_delay: 0,
-        power_on: 0,
-        limiting: 0,
-        overload: 0,
-        no_load: 0,
-    },
-};
+// Enable 00, alternative A, priority unknown.
+const COLD: u16 = 0x0004;
 
-fn cold_table(count: u16) -> Table
-    ensures { λ r. ⌜ r ≡ coldTable count ⌝ }
+// The count stands first, and the control words from 56 on.
+fn cold_cell(count: u16, k: usize) -> u16
+    ensures { λ r. ⌜ r ≡ coldCell count k ⌝ }
 {
-    let cold = COLD;
-    let ports = [cold; 48];
-    let supply = Power::ZERO;
-    Table {
-        ports,
-        count,
-        supply,
+    if k == 0 {
+        return count;
+    }
+    if (56 <= k) & (k < 104) { COLD } else { 0 }
+}
+
+// Places at or past the port count are filled alike.
+fn fill(cells: &mut [u16], count: u16)
+    requires { ⌜ length (now cells) ≡ cellsLong ⌝ }
+    ensures { λ _. ⌜ now (cells .exit) ≡ cellsOf (coldTable count) ⌝ }
+{
+    let mut k = 0;
+    while k < 728 {
+        cells[k] = cold_cell(count, k);
+        k += 1;
     }
 }
 
-// Refused, it answers a table of no ports beside the number: every call refuses that with 13.
-pub fn cold_start(ports: u64) -> Told
-    ensures { λ r. ⌜ r ≡ coldStart ports ⌝ }
+// It looks at nothing that the cells hold: they may never have been a table.
+pub fn cold_start(cells: &mut [u16], ports: u64) -> Answer
+    ensures { λ r. ⌜ r ≡ startOn (now (cells .entry)) ports .answer ⌝ }
+    ensures { λ _. ⌜ now (cells .exit) ≡ cellsCold (startOn (now (cells .entry)) ports) (now (cells .entry)) ⌝ }
 {
+    if cells.len() != 728 {
+        return Answer::Refused(13);
+    }
     if ports < 1 {
-        return refuse(2, cold_table(0));
+        return Answer::Refused(2);
     }
     if 48 < ports {
-        return refuse(2, cold_table(0));
+        return Answer::Refused(2);
     }
-    done(cold_table(ports as u16))
-}
-
-fn is_in_disabled(state: State) -> bool
-    ensures { λ r. ⌜ r ≡ inDisabled state ⌝ }
-{
-    match state {
-        State::Disabled => true,
-        State::Idle => false,
-        State::Detecting => false,
-        State::Backoff => false,
-        State::Classifying => false,
-        State::PowerUp => false,
-        State::PowerOn => false,
-        State::ErrorDelay => false,
-        State::TestMode => false,
-        State::TestError => false,
-    }
+    fill(cells, ports as u16);
+    Answer::Done
 }
 
 fn same_alternative(v: u16, w: u16) -> bool
@@ -98,48 +77,44 @@ fn same_alternative(v: u16, w: u16) -> bool
     v / 4 % 4 == w / 4 % 4
 }
 
-fn may_write(state: State, present: u16, word: u16) -> bool
-    ensures { λ r. ⌜ r ≡ (sameAlternative present word || inDisabled state) ⌝ }
+// The code of DISABLED is 0.
+fn may_write(state: u16, present: u16, word: u16) -> bool
+    ensures { λ r. ⌜ r ≡ (sameAlternative present word || inDisabled (stateOf state)) ⌝ }
 {
-    if is_in_disabled(state) {
+    if state == 0 {
         return true;
     }
     same_alternative(present, word)
 }
 
-fn with_control(control: u16, port: Port) -> Port
-    ensures { λ r. ⌜ r ≡ withControl control port ⌝ }
-{
-    Port { control, ..port }
-}
-
 // What the ladder asks after 13 and 2.
-fn controlled_port(table: Table, port: usize, word: u64) -> Told
-    requires { ⌜ port < 48 ⌝ }
-    ensures { λ r. ⌜ r ≡ ladder (drop 2 (controlRefusals table port word)) (λ k. refuse k table) (done (withPort port (withControl word (portAt table port)) table)) ⌝ }
+fn controlled(cells: &mut [u16], p: usize, word: u64) -> Answer
+    requires { ⌜ AtPort (now cells) p ⌝ }
+    ensures { λ r. ⌜ r ≡ controlRest (now (cells .entry)) p word .answer ⌝ }
+    ensures { λ _. ⌜ now (cells .exit) ≡ cellsTold (controlRest (now (cells .entry)) p word) (now (cells .entry)) ⌝ }
 {
     if words::control::refused(word) {
-        return refuse(3, table);
+        return Answer::Refused(3);
     }
     let control = word as u16;
-    let present = port_at(table, port);
-    let state = present.state;
-    if may_write(state, present.control, control) {
-        return done(with_port(port, with_control(control, present), table));
+    if !may_write(cells[8 + p], cells[56 + p], control) {
+        return Answer::Refused(5);
     }
-    refuse(5, table)
+    cells[56 + p] = control;
+    Answer::Done
 }
 
-pub fn write_control(table: Table, port: u64, word: u64) -> Told
-    ensures { λ r. ⌜ r ≡ writeControl table port word ⌝ }
+pub fn write_control(cells: &mut [u16], port: u64, word: u64) -> Answer
+    ensures { λ r. ⌜ r ≡ controlOn (now (cells .entry)) port word .answer ⌝ }
+    ensures { λ _. ⌜ now (cells .exit) ≡ cellsTold (controlOn (now (cells .entry)) port word) (now (cells .entry)) ⌝ }
 {
-    if !well_made(table) {
-        return refuse(13, table);
+    if !well_made(cells) {
+        return Answer::Refused(13);
     }
-    if table.count as u64 <= port {
-        return refuse(2, table);
+    if cells[0] as u64 <= port {
+        return Answer::Refused(2);
     }
-    controlled_port(table, port as usize, word)
+    controlled(cells, port as usize, word)
 }
 
 fn condition_of(state: State) -> Condition
@@ -159,34 +134,28 @@ fn condition_of(state: State) -> Condition
     }
 }
 
-fn without_latches(port: Port) -> Port
-    ensures { λ r. ⌜ r ≡ unlatched port ⌝ }
+fn word_of(cells: &[u16], p: usize) -> u16
+    requires { ⌜ AtPort (now cells) p ⌝ }
+    ensures { λ r. ⌜ r ≡ statusWord (portAt (tableOf (now (cells .entry))) p .latches) (portAt (tableOf (now (cells .entry))) p .class) (condition (portAt (tableOf (now (cells .entry))) p .state)) ⌝ }
 {
-    let latches = Latches::NONE;
-    Port { latches, ..port }
+    let condition = condition_of(state_of(cells[8 + p]));
+    status_word(latches_of(cells[200 + p]), cells[152 + p] as u8, condition)
 }
 
-fn status_of(table: Table, port: usize) -> StatusRead
-    requires { ⌜ port < 48 ⌝ }
-    ensures { λ r. ⌜ r ≡ statusAt port table ⌝ }
+pub fn read_status(cells: &mut [u16], port: u64) -> Status
+    ensures { λ r. ⌜ r ≡ statusOn (now (cells .entry)) port .answer ⌝ }
+    ensures { λ _. ⌜ now (cells .exit) ≡ cellsRead (statusOn (now (cells .entry)) port) (now (cells .entry)) ⌝ }
 {
-    let present = port_at(table, port);
-    let state = present.state;
-    let latches = present.latches;
-    let word = status_word(latches, present.class, condition_of(state));
-    tells(word, with_port(port, without_latches(present), table))
-}
-
-pub fn read_status(table: Table, port: u64) -> StatusRead
-    ensures { λ r. ⌜ r ≡ readStatus table port ⌝ }
-{
-    if !well_made(table) {
-        return refuse_status(13, table);
+    if !well_made(cells) {
+        return Status::Refused(13);
     }
-    if table.count as u64 <= port {
-        return refuse_status(2, table);
+    if cells[0] as u64 <= port {
+        return Status::Refused(2);
     }
-    status_of(table, port as usize)
+    let p = port as usize;
+    let word = word_of(cells, p);
+    cells[200 + p] = 0;
+    Status::Word(word)
 }
 
 // The budgets of classes 1 to 4 are the levels of a request.
@@ -205,101 +174,85 @@ fn level_of(value: u64) -> Power
     budget(4)
 }
 
-fn is_in_power_on(state: State) -> bool
-    ensures { λ r. ⌜ r ≡ inPowerOn state ⌝ }
+// A port is closed exactly in POWER_UP, POWER_ON and TEST_MODE, by their codes.
+fn drawn(state: u16, demand: u16) -> u32
+    ensures { λ r. ⌜ (r ≡ cond (closed (stateOf state)) demand 0) × (r < 2 ^ 16) ⌝ }
 {
-    match state {
-        State::Disabled => false,
-        State::Idle => false,
-        State::Detecting => false,
-        State::Backoff => false,
-        State::Classifying => false,
-        State::PowerUp => false,
-        State::PowerOn => true,
-        State::ErrorDelay => false,
-        State::TestMode => false,
-        State::TestError => false,
+    if (state == 5) | (state == 6) | (state == 8) {
+        demand as u32
+    } else {
+        0
     }
 }
 
-fn drawn(port: Port) -> Power
-    ensures { λ r. ⌜ (r .0 ≡ draws port) × (r .0 < 2 ^ 16) ⌝ }
+fn pick(first: bool, a: u16, b: u16) -> u16
+    ensures { λ r. ⌜ r ≡ cond first a b ⌝ }
 {
-    let state = port.state;
-    if is_closed(state) {
-        return port.demand;
-    }
-    Power::ZERO
+    if first { a } else { b }
 }
 
-fn closed_sum(table: Table) -> Sum
-    requires { ⌜ table .count ≤ 48 ⌝ }
-    ensures { λ r. ⌜ r ≡ sumOf (closedSum table) ⌝ }
+// All closed ports' demands, where the one at `at` has another. 48 of them never reach the end of the type.
+fn closed_sum(cells: &[u16], at: usize, demand: Power) -> Sum
+    requires { ⌜ AtPort (now cells) at ⌝ }
+    ensures { λ r. ⌜ r ≡ sumOf (closedSum (granting demand at (tableOf (now (cells .entry))))) ⌝ }
 {
-    let n = table.count as usize;
-    let mut sum = Sum::ZERO;
-    let mut i = 0;
-    while i < n {
-        let port = table.ports[i];
-        sum = sum.plus(drawn(port));
-        i += 1;
+    let n = cells[0] as usize;
+    let changed = demand.0;
+    let mut sum = 0u32;
+    let mut p = 0;
+    while p < n {
+        sum += drawn(cells[8 + p], pick(p == at, changed, cells[104 + p]));
+        p += 1;
     }
-    sum
-}
-
-fn with_demand(demand: Power, port: Port) -> Port
-    ensures { λ r. ⌜ r ≡ demanding demand port ⌝ }
-{
-    Port { demand, ..port }
+    Sum(sum)
 }
 
 // A demand not above the present one needs no look at the supply.
-fn grant(demand: Power, table: Table, port: usize) -> Told
-    requires { ⌜ (port < 48) × (table .count ≤ 48) ⌝ }
-    ensures { λ r. ⌜ r ≡ cond (overSupply demand port table) (refuse 12 table) (done (granting demand port table)) ⌝ }
+fn too_much(cells: &[u16], p: usize, demand: Power) -> bool
+    requires { ⌜ AtPort (now cells) p ⌝ }
+    ensures { λ r. ⌜ r ≡ overSupply demand p (tableOf (now (cells .entry))) ⌝ }
 {
-    let present = port_at(table, port);
-    let after = with_port(port, with_demand(demand, present), table);
-    if demand.at_most(present.demand) {
-        return done(after);
+    if demand.at_most(Power(cells[104 + p])) {
+        return false;
     }
-    if closed_sum(after).fits(table.supply) {
-        return done(after);
-    }
-    refuse(12, table)
+    !closed_sum(cells, p, demand).fits(Power(cells[1]))
 }
 
-// What the ladder asks after 13 and 2.
-fn requested_of(table: Table, port: usize, value: u64) -> Told
-    requires { ⌜ (port < 48) × (table .count ≤ 48) ⌝ }
-    ensures { λ r. ⌜ r ≡ ladder (drop 2 (requestRefusals table port value)) (λ k. refuse k table) (done (granting (levelOf value) port table)) ⌝ }
+// What the ladder asks after 13 and 2. The code of POWER_ON is 6.
+fn requested(cells: &mut [u16], p: usize, value: u64) -> Answer
+    requires { ⌜ AtPort (now cells) p ⌝ }
+    ensures { λ r. ⌜ r ≡ requestRest (now (cells .entry)) p value .answer ⌝ }
+    ensures { λ _. ⌜ now (cells .exit) ≡ cellsTold (requestRest (now (cells .entry)) p value) (now (cells .entry)) ⌝ }
 {
     if value < 1 {
-        return refuse(10, table);
+        return Answer::Refused(10);
     }
     if 255 < value {
-        return refuse(10, table);
+        return Answer::Refused(10);
     }
-    let present = port_at(table, port);
-    let state = present.state;
-    if !is_in_power_on(state) {
-        return refuse(5, table);
+    if cells[8 + p] != 6 {
+        return Answer::Refused(5);
     }
     let level = level_of(value);
-    if !level.at_most(budget(present.class)) {
-        return refuse(11, table);
+    if !level.at_most(budget(cells[152 + p] as u8)) {
+        return Answer::Refused(11);
     }
-    grant(level, table, port)
+    if too_much(cells, p, level) {
+        return Answer::Refused(12);
+    }
+    cells[104 + p] = level.0;
+    Answer::Done
 }
 
-pub fn request(table: Table, port: u64, value: u64) -> Told
-    ensures { λ r. ⌜ r ≡ request table port value ⌝ }
+pub fn request(cells: &mut [u16], port: u64, value: u64) -> Answer
+    ensures { λ r. ⌜ r ≡ requestOn (now (cells .entry)) port value .answer ⌝ }
+    ensures { λ _. ⌜ now (cells .exit) ≡ cellsTold (requestOn (now (cells .entry)) port value) (now (cells .entry)) ⌝ }
 {
-    if !well_made(table) {
-        return refuse(13, table);
+    if !well_made(cells) {
+        return Answer::Refused(13);
     }
-    if table.count as u64 <= port {
-        return refuse(2, table);
+    if cells[0] as u64 <= port {
+        return Answer::Refused(2);
     }
-    requested_of(table, port as usize, value)
+    requested(cells, port as usize, value)
 }

@@ -10,9 +10,6 @@ use parts::front;
 use parts::number_of;
 use parts::numbers_of;
 use parts::word;
-use table::form::Answer;
-use table::form::Table;
-use table::form::Told;
 use text::end;
 use text::hex;
 use tlv::fields::Added;
@@ -20,79 +17,55 @@ use tlv::fields::Fields;
 use tlv::fields::Form;
 use tlv::write::Written;
 ghost use mathlib.Core.Path.{_≡_};
-ghost use Prim.Native.Nat.{_≤_};
+ghost use Prim.Native.Nat.{_/_, _≤_};
 ghost use lib.ListN.{length};
 
-// The table as it is after a line, and where the next answer goes.
+// How many cells are held after a line, and where the next answer goes.
 pub struct Held {
-    pub table: Table,
+    pub many: usize,
     pub at: usize,
 }
 
 // Nothing changes.
-pub fn bad(table: Table, out: &mut [u8], at: usize) -> Held {
+pub fn bad(many: usize, out: &mut [u8], at: usize) -> Held {
     let to = bad_line(out, at);
-    Held { table, at: to }
+    Held { many, at: to }
 }
 
-// The table that comes back is held, after a refusal too: then it is unchanged.
-fn answered(told: Told, out: &mut [u8], at: usize) -> Held {
-    let table = told.table;
-    let answer = told.answer;
-    let to = crate::answers::answer(out, at, answer);
-    Held { table, at: to }
-}
-
-// A refused cold start leaves the held table as it is.
-fn cold(line: &[u8], table: Table, out: &mut [u8], at: usize) -> Held {
+fn cold(line: &[u8], cells: &mut [u16], out: &mut [u8], at: usize) -> usize {
     let a = numbers_of(line, 1);
     if !a.ok {
-        return bad(table, out, at);
+        return bad_line(out, at);
     }
-    let told = calls::cold_start(a.n[0]);
-    let answer = told.answer;
-    let to = crate::answers::answer(out, at, answer);
-    match answer {
-        Answer::Done => {
-            let after = told.table;
-            Held {
-                table: after,
-                at: to,
-            }
-        }
-        Answer::Refused(_) => Held { table, at: to },
-    }
+    let answer = calls::cold_start(cells, a.n[0]);
+    crate::answers::answer(out, at, answer)
 }
 
-fn control(line: &[u8], table: Table, out: &mut [u8], at: usize) -> Held {
+fn control(line: &[u8], cells: &mut [u16], out: &mut [u8], at: usize) -> usize {
     let a = numbers_of(line, 2);
     if !a.ok {
-        return bad(table, out, at);
+        return bad_line(out, at);
     }
-    answered(calls::write_control(table, a.n[0], a.n[1]), out, at)
+    let answer = calls::write_control(cells, a.n[0], a.n[1]);
+    crate::answers::answer(out, at, answer)
 }
 
-fn request(line: &[u8], table: Table, out: &mut [u8], at: usize) -> Held {
+fn request(line: &[u8], cells: &mut [u16], out: &mut [u8], at: usize) -> usize {
     let a = numbers_of(line, 2);
     if !a.ok {
-        return bad(table, out, at);
+        return bad_line(out, at);
     }
-    answered(calls::request(table, a.n[0], a.n[1]), out, at)
+    let answer = calls::request(cells, a.n[0], a.n[1]);
+    crate::answers::answer(out, at, answer)
 }
 
-fn status(line: &[u8], table: Table, out: &mut [u8], at: usize) -> Held {
+fn status(line: &[u8], cells: &mut [u16], out: &mut [u8], at: usize) -> usize {
     let a = numbers_of(line, 1);
     if !a.ok {
-        return bad(table, out, at);
+        return bad_line(out, at);
     }
-    let told = calls::read_status(table, a.n[0]);
-    let after = told.table;
-    let answer = told.answer;
-    let to = crate::answers::status(out, at, answer);
-    Held {
-        table: after,
-        at: to,
-    }
+    let answer = calls::read_status(cells, a.n[0]);
+    crate::answers::status(out, at, answer)
 }
 
 // The bytes of a line that has one more word, as HEX.
@@ -103,46 +76,117 @@ fn only(line: &[u8], data: &mut [u8]) -> Bytes {
     bytes_of(word(line, 1), data)
 }
 
-fn loaded(image: &[u8], table: Table, out: &mut [u8], at: usize) -> Held {
-    let loaded = image::load::load(image);
-    if loaded.ok {
-        let after = loaded.table;
-        let to = text::line(out, at, b"ok");
-        return Held {
-            table: after,
-            at: to,
-        };
-    }
+fn bad_image(many: usize, out: &mut [u8], at: usize) -> Held {
     let to = text::line(out, at, b"bad image");
-    Held { table, at: to }
+    Held { many, at: to }
 }
 
-fn load(line: &[u8], data: &mut [u8], table: Table, out: &mut [u8], at: usize) -> Held {
+// An image is restored into as many cells as a table has, whatever was held before; the room has never fewer.
+fn loaded(image: &[u8], room: &mut [u16], many: usize, out: &mut [u8], at: usize) -> Held {
+    if room.len() < 728 {
+        return bad_image(many, out, at);
+    }
+    if image::load::load(image, &mut room[..728]) {
+        let to = text::line(out, at, b"ok");
+        return Held { many: 728, at: to };
+    }
+    bad_image(many, out, at)
+}
+
+fn load(
+    line: &[u8],
+    data: &mut [u8],
+    room: &mut [u16],
+    many: usize,
+    out: &mut [u8],
+    at: usize,
+) -> Held {
     match only(line, data) {
-        Bytes::Are(n) => loaded(front(data, n), table, out, at),
-        Bytes::Bad => bad(table, out, at),
+        Bytes::Are(n) => loaded(front(data, n), room, many, out, at),
+        Bytes::Bad => bad(many, out, at),
     }
 }
 
-fn dump(line: &[u8], table: Table, out: &mut [u8], at: usize) -> usize {
+fn dump(line: &[u8], cells: &[u16], out: &mut [u8], at: usize) -> usize {
     if count(line) != 1 {
         return bad_line(out, at);
     }
     let mut room = [0u8; 1_014];
-    image::store::store(table, &mut room);
-    let to = hex(out, at, &room);
+    if image::store::store(cells, &mut room) {
+        let to = hex(out, at, &room);
+        return end(out, to);
+    }
+    text::line(out, at, b"bad image")
+}
+
+fn cell(high: u8, low: u8) -> u16 {
+    high as u16 * 256 + low as u16
+}
+
+// Two bytes a cell, the high one first.
+fn fill(bytes: &[u8], room: &mut [u16])
+    requires { ⌜ length (now bytes) / 2 ≤ length (now room) ⌝ }
+{
+    let n = bytes.len() / 2;
+    let mut i = 0;
+    while i < n {
+        room[i] = cell(bytes[2 * i], bytes[2 * i + 1]);
+        i += 1;
+    }
+}
+
+fn taken(bytes: &[u8], room: &mut [u16], many: usize, out: &mut [u8], at: usize) -> Held {
+    if bytes.len() % 2 != 0 {
+        return bad(many, out, at);
+    }
+    if room.len() < bytes.len() / 2 {
+        return bad(many, out, at);
+    }
+    let held = bytes.len() / 2;
+    fill(bytes, room);
+    let to = text::line(out, at, b"ok");
+    Held { many: held, at: to }
+}
+
+// Whatever the cells are, and however many: what is no table is for the core to refuse.
+fn cells(
+    line: &[u8],
+    data: &mut [u8],
+    room: &mut [u16],
+    many: usize,
+    out: &mut [u8],
+    at: usize,
+) -> Held {
+    match only(line, data) {
+        Bytes::Are(n) => taken(front(data, n), room, many, out, at),
+        Bytes::Bad => bad(many, out, at),
+    }
+}
+
+fn shown(cell: u16, out: &mut [u8], at: usize) -> usize {
+    let two = [(cell / 256) as u8, (cell % 256) as u8];
+    hex(out, at, &two)
+}
+
+fn show(line: &[u8], cells: &[u16], out: &mut [u8], at: usize) -> usize {
+    if count(line) != 1 {
+        return bad_line(out, at);
+    }
+    if cells.len() < 1 {
+        return text::line(out, at, b"cells -");
+    }
+    let mut to = text::text(out, at, b"cells ");
+    let mut i = 0;
+    while i < cells.len() {
+        to = shown(cells[i], out, to);
+        i += 1;
+    }
     end(out, to)
 }
 
-fn ticked(block: &[u8], figure: u64, table: Table, out: &mut [u8], at: usize) -> Held {
-    let told = tick::tick(table, block, figure);
-    let after = told.table;
-    let answer = told.answer;
-    let to = crate::answers::closed(out, at, answer);
-    Held {
-        table: after,
-        at: to,
-    }
+fn ticked(block: &[u8], figure: u64, cells: &mut [u16], out: &mut [u8], at: usize) -> usize {
+    let answer = tick::tick(cells, block, figure);
+    crate::answers::closed(out, at, answer)
 }
 
 fn block(line: &[u8], data: &mut [u8]) -> Bytes {
@@ -152,13 +196,13 @@ fn block(line: &[u8], data: &mut [u8]) -> Bytes {
     bytes_of(word(line, 2), data)
 }
 
-fn tick(line: &[u8], data: &mut [u8], table: Table, out: &mut [u8], at: usize) -> Held {
+fn tick(line: &[u8], data: &mut [u8], cells: &mut [u16], out: &mut [u8], at: usize) -> usize {
     match number_of(word(line, 1)) {
         Number::Is(figure) => match block(line, data) {
-            Bytes::Are(n) => ticked(front(data, n), figure, table, out, at),
-            Bytes::Bad => bad(table, out, at),
+            Bytes::Are(n) => ticked(front(data, n), figure, cells, out, at),
+            Bytes::Bad => bad_line(out, at),
         },
-        Number::Bad => bad(table, out, at),
+        Number::Bad => bad_line(out, at),
     }
 }
 
@@ -306,7 +350,7 @@ fn class(line: &[u8], out: &mut [u8], at: usize) -> usize {
     crate::answers::class(out, at, shown)
 }
 
-// The commands that leave the table as it is.
+// The commands that have nothing to do with a table.
 fn other(name: &[u8], line: &[u8], data: &mut [u8], out: &mut [u8], at: usize) -> usize {
     if same(name, b"search") {
         return search(line, data, out, at);
@@ -329,30 +373,58 @@ fn other(name: &[u8], line: &[u8], data: &mut [u8], out: &mut [u8], at: usize) -
     bad_line(out, at)
 }
 
-pub fn answer(line: &[u8], data: &mut [u8], table: Table, out: &mut [u8], at: usize) -> Held {
-    let name = word(line, 0);
+// The commands on the cells that are held, which stay as many.
+fn on_cells(
+    name: &[u8],
+    line: &[u8],
+    data: &mut [u8],
+    cells: &mut [u16],
+    out: &mut [u8],
+    at: usize,
+) -> usize {
     if same(name, b"tick") {
-        return tick(line, data, table, out, at);
+        return tick(line, data, cells, out, at);
     }
     if same(name, b"control") {
-        return control(line, table, out, at);
+        return control(line, cells, out, at);
     }
     if same(name, b"request") {
-        return request(line, table, out, at);
+        return request(line, cells, out, at);
     }
     if same(name, b"status") {
-        return status(line, table, out, at);
+        return status(line, cells, out, at);
     }
     if same(name, b"cold") {
-        return cold(line, table, out, at);
-    }
-    if same(name, b"table") {
-        return load(line, data, table, out, at);
+        return cold(line, cells, out, at);
     }
     if same(name, b"dump") {
-        let to = dump(line, table, out, at);
-        return Held { table, at: to };
+        return dump(line, cells, out, at);
     }
-    let to = other(name, line, data, out, at);
-    Held { table, at: to }
+    if same(name, b"show") {
+        return show(line, cells, out, at);
+    }
+    other(name, line, data, out, at)
+}
+
+// The first `many` cells of the room are held; the room has never fewer.
+pub fn answer(
+    line: &[u8],
+    data: &mut [u8],
+    room: &mut [u16],
+    many: usize,
+    out: &mut [u8],
+    at: usize,
+) -> Held {
+    let name = word(line, 0);
+    if same(name, b"table") {
+        return load(line, data, room, many, out, at);
+    }
+    if same(name, b"cells") {
+        return cells(line, data, room, many, out, at);
+    }
+    if room.len() < many {
+        return bad(many, out, at);
+    }
+    let to = on_cells(name, line, data, &mut room[..many], out, at);
+    Held { many, at: to }
 }

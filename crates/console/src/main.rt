@@ -6,7 +6,6 @@ mod lines;
 use commands::Held;
 use lines::Source;
 use parts::front;
-use table::form::Table;
 ghost use mathlib.Core.Path.{_≡_};
 ghost use lib.ListN.{length};
 
@@ -21,14 +20,15 @@ fn turn(
     line: &[u8],
     length: usize,
     data: &mut [u8],
-    table: Table,
+    room: &mut [u16],
+    many: usize,
     out: &mut [u8],
     at: usize,
 ) -> Held {
     if LONGEST < length {
-        return commands::bad(table, out, at);
+        return commands::bad(many, out, at);
     }
-    commands::answer(front(line, length), data, table, out, at)
+    commands::answer(front(line, length), data, room, many, out, at)
 }
 
 fn written(out: &[u8], at: usize) {
@@ -46,8 +46,9 @@ fn flushed(source: Source, out: &[u8], at: usize) -> usize {
     0
 }
 
-fn run(input: &mut [u8], line: &mut [u8], data: &mut [u8], out: &mut [u8], first: Table) {
-    let mut table = first;
+// Before the first cold start the table is 728 cells, all 0: it has no ports.
+fn run(input: &mut [u8], line: &mut [u8], data: &mut [u8], out: &mut [u8], room: &mut [u16]) {
+    let mut many: usize = 728;
     let mut source = Source { at: 0, end: 0 };
     let mut at: usize = 0;
     let mut left = MOST;
@@ -58,19 +59,19 @@ fn run(input: &mut [u8], line: &mut [u8], data: &mut [u8], out: &mut [u8], first
             return;
         }
         source = taken.source;
-        let told = turn(line, taken.length, data, table, out, at);
-        let after = told.table;
-        table = after;
+        let told = turn(line, taken.length, data, room, many, out, at);
+        many = told.many;
         at = told.at;
         left -= 1;
     }
     written(out, at);
 }
 
-// Before the first cold start the table is all zeros: its count is 0.
-fn zeros() -> Table {
-    let image = [0u8; 1_014];
-    image::load::load(&image).table
+// The cells: 1,024 at most.
+fn cell_room() -> [u16; 1_024]
+    ensures { λ r. ⌜ 1024 ≡ length r ⌝ }
+{
+    [0; 1_024]
 }
 
 fn line_room() -> [u8; 8_193]
@@ -84,5 +85,6 @@ fn main() {
     let mut line = line_room();
     let mut data = io::buffer();
     let mut out = io::large_buffer();
-    run(&mut input, &mut line, &mut data, &mut out, zeros());
+    let mut room = cell_room();
+    run(&mut input, &mut line, &mut data, &mut out, &mut room);
 }

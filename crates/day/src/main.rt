@@ -1,84 +1,73 @@
 // A day in small: reads a script of calls, makes them on one table, and writes what they answer and what the table then holds.
 // A record of the script is a call (1 byte), a port (1), a number (2), a figure (4), a length (2) and that many bytes, big-endian.
+ghost use mathlib.Core.Path.{_≡_};
 ghost use Prim.Native.Nat.{_<_};
-use port::form::Counts;
-use port::form::Port;
-use port::form::State;
+ghost use lib.ListN.{length};
 use table::form::Answer;
 use table::form::Closed;
 use table::form::Status;
-use table::form::Table;
-use words::status::Latches;
 
 fn number(n: u64) {
     io::print_decimal(1, n);
     io::write_all(1, b" ");
 }
 
-fn yes(b: bool) {
-    number(b as u64);
-}
-
 fn end() {
     io::write_all(1, b"\n");
 }
 
-fn state_number(state: State) -> u64 {
-    match state {
-        State::Disabled => 0,
-        State::Idle => 1,
-        State::Detecting => 2,
-        State::Backoff => 3,
-        State::Classifying => 4,
-        State::PowerUp => 5,
-        State::PowerOn => 6,
-        State::ErrorDelay => 7,
-        State::TestMode => 8,
-        State::TestError => 9,
-    }
+fn cell(cells: &[u16], k: usize) -> u16 {
+    if k < cells.len() { cells[k] } else { 0 }
 }
 
-fn show_latches(l: Latches) {
-    yes(l.denied);
-    yes(l.valid);
-    yes(l.invalid);
-    yes(l.short);
-    yes(l.overload);
-    yes(l.absent);
+fn show(cells: &[u16], k: usize) {
+    number(cell(cells, k) as u64);
 }
 
-fn show_counts(c: Counts) {
-    number(c.detection as u64);
-    number(c.backoff as u64);
-    number(c.error_delay as u64);
-    number(c.power_on as u64);
-    number(c.limiting as u64);
-    number(c.overload as u64);
-    number(c.no_load as u64);
+// Each latch, from bit 5 down.
+fn show_latches(latches: u16) {
+    number((latches / 32 % 2) as u64);
+    number((latches / 16 % 2) as u64);
+    number((latches / 8 % 2) as u64);
+    number((latches / 4 % 2) as u64);
+    number((latches / 2 % 2) as u64);
+    number((latches % 2) as u64);
 }
 
-fn show_port(port: Port) {
-    let state = port.state;
-    number(state_number(state));
-    number(port.control as u64);
-    number(port.class as u64);
-    number(port.demand.0 as u64);
-    let latches = port.latches;
-    show_latches(latches);
-    let counts = port.counts;
-    show_counts(counts);
+fn show_counts(cells: &[u16], p: usize)
+    requires { ⌜ p < 48 ⌝ }
+{
+    show(cells, 248 + p);
+    show(cells, 296 + p);
+    show(cells, 344 + p);
+    show(cells, 392 + p);
+    show(cells, 440 + p);
+    show(cells, 488 + p);
+    show(cells, 536 + p);
+}
+
+// State, control word, class, demand, latches and counters.
+fn show_port(cells: &[u16], p: usize)
+    requires { ⌜ p < 48 ⌝ }
+{
+    show(cells, 8 + p);
+    show(cells, 56 + p);
+    show(cells, 152 + p);
+    show(cells, 104 + p);
+    show_latches(cell(cells, 200 + p));
+    show_counts(cells, p);
     end();
 }
 
-fn show_table(table: Table) {
-    number(table.count as u64);
-    number(table.supply.0 as u64);
+fn show_table(cells: &[u16]) {
+    show(cells, 0);
+    show(cells, 1);
     end();
-    let n = table.count as usize;
+    let n = cell(cells, 0) as usize;
     let mut i = 0;
     while i < n {
         if i < 48 {
-            show_port(table.ports[i]);
+            show_port(cells, i);
         }
         i += 1;
     }
@@ -118,64 +107,25 @@ fn tick_told(answer: Closed) {
 }
 
 // The same block and figure, so many times; the last answer is written.
-fn ticks(table: Table, block: &[u8], figure: u64, times: u64) -> Table {
-    let mut now = table;
+fn ticks(cells: &mut [u16], block: &[u8], figure: u64, times: u64) {
     let mut left = times;
     while 0 < left {
-        let ticked = tick::tick(now, block, figure);
-        let next = ticked.table;
-        let answer = ticked.answer;
+        let answer = tick::tick(cells, block, figure);
         if left == 1 {
             tick_told(answer);
         }
-        now = next;
         left -= 1;
     }
-    now
 }
 
-fn start(table: Table, ports: u64) -> Table {
-    let told_now = calls::cold_start(ports);
-    let answer = told_now.answer;
-    told(answer);
-    match answer {
-        Answer::Done => told_now.table,
-        Answer::Refused(_) => table,
-    }
-}
-
-fn control(table: Table, port: u64, word: u64) -> Table {
-    let t = calls::write_control(table, port, word);
-    let answer = t.answer;
-    told(answer);
-    t.table
-}
-
-fn request(table: Table, port: u64, value: u64) -> Table {
-    let t = calls::request(table, port, value);
-    let answer = t.answer;
-    told(answer);
-    t.table
-}
-
-fn status(table: Table, port: u64) -> Table {
-    let t = calls::read_status(table, port);
-    let answer = t.answer;
-    status_told(answer);
-    t.table
-}
-
-fn call(kind: u8, table: Table, port: u64, value: u64, figure: u64, block: &[u8]) -> Table {
+fn call(kind: u8, cells: &mut [u16], port: u64, value: u64, figure: u64, block: &[u8]) {
     match kind {
-        0 => start(table, port),
-        1 => control(table, port, value),
-        2 => status(table, port),
-        3 => request(table, port, value),
-        4 => ticks(table, block, figure, value),
-        _ => {
-            show_table(table);
-            table
-        }
+        0 => told(calls::cold_start(cells, port)),
+        1 => told(calls::write_control(cells, port, value)),
+        2 => status_told(calls::read_status(cells, port)),
+        3 => told(calls::request(cells, port, value)),
+        4 => ticks(cells, block, figure, value),
+        _ => show_table(cells),
     }
 }
 
@@ -189,18 +139,14 @@ fn single(byte: u8) -> u64 {
     byte as u64
 }
 
-// One record from a place in the script; the next place.
-fn main() {
-    let mut script = io::large_buffer();
-    let len = io::read_full(0, &mut script);
-    let mut table = calls::cold_start(0).table;
+// Record by record, each from a place in the script to the next place.
+fn run(s: &[u8], len: usize, cells: &mut [u16]) {
+    if s.len() < 65_536 {
+        return;
+    }
     let mut at: usize = 0;
     while at < 65_000 {
         if len < at + 10 {
-            return;
-        }
-        let s = &script[..];
-        if s.len() < 65_536 {
             return;
         }
         let figure = wide(s[at + 4], s[at + 5]) * 65_536 + wide(s[at + 6], s[at + 7]);
@@ -213,9 +159,9 @@ fn main() {
         if 65_536 < to {
             return;
         }
-        table = call(
+        call(
             s[at],
-            table,
+            cells,
             single(s[at + 1]),
             wide(s[at + 2], s[at + 3]),
             figure,
@@ -223,4 +169,18 @@ fn main() {
         );
         at = to;
     }
+}
+
+// All 0 is a table of no ports.
+fn zeros() -> [u16; 728]
+    ensures { λ r. ⌜ 728 ≡ length r ⌝ }
+{
+    [0; 728]
+}
+
+fn main() {
+    let mut script = io::large_buffer();
+    let len = io::read_full(0, &mut script);
+    let mut cells = zeros();
+    run(&script, len, &mut cells);
 }

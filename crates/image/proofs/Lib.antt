@@ -1,1 +1,3 @@
+pub mod Restored
+pub mod Saved
 pub mod Written

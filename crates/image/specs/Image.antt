@@ -1,21 +1,18 @@
 -- The image of a table, byte by byte. docs/CONSOLE.md: "1,014 bytes, big-endian: count (2), supply (4), then 48 ports of 21 bytes".
 use Prim.Native.Nat.{ℕ, _+_, _-_, _/_, _%_}
-use mathlib.Core.Bool.{Bool, cond}
+use mathlib.Core.Bool.{Bool, cond, _&&_}
 use mathlib.Core.List.{List, [], _∷_, _++_}
 use lib.Dec.{ltb, eqb}
 use lib.ListN.{length, getD}
-use Rattle.lists.specs.Bits.{place}
+use Rattle.lists.specs.Every.{every}
 use Rattle.lists.specs.Places.{tabulate}
-use Rattle.words.specs.declared.status.Latches.{Latches}
 use Rattle.port.specs.declared.form.Counts.{Counts}
 use Rattle.port.specs.declared.form.Port.{Port}
 use Rattle.port.specs.States.{codeOf}
 use Rattle.table.specs.Form.{portAt}
 use Rattle.table.specs.declared.form.Table.{Table}
-
--- the latches, 1 byte. docs/CONSOLE.md: "bit 5 denied, 4 valid, 3 invalid, 2 short circuit, 1 overload, 0 load absent"
-unfoldable pub latchByte : Latches → ℕ
-latchByte l = place 5 (l .denied) + place 4 (l .valid) + place 3 (l .invalid) + place 2 (l .short) + place 1 (l .overload) + place 0 (l .absent)
+use Rattle.cells.specs.Cells.{cellsLong, portHolds, tableOf}
+use Rattle.cells.specs.Codes.{latchByte}
 
 -- two bytes, the high one first
 abbrev pub word : ℕ → List ℕ
@@ -41,9 +38,17 @@ byteAt t k = cond (ltb k 6) (getD (headBytes t) k 0) (getD (portBytes (portAt t 
 unfoldable pub imageOf : Table → List ℕ
 imageOf t = tabulate 1014 (byteAt t)
 
--- a room of another length is not written
-unfoldable pub stores : List ℕ → Bool
-stores room = eqb (length room) 1014
+-- the cells of a place are a port that an image can hold: a state and latches that there are, and a class of one byte
+unfoldable pub portSaves : List ℕ → ℕ → Bool
+portSaves l p = portHolds l p && ltb (getD l (152 + p) 0) 256
 
-unfoldable pub roomAfter : Table → List ℕ → List ℕ
-roomAfter t room = cond (stores room) (imageOf t) room
+-- docs/CONSOLE.md: "no image holds cells of another number than 728, nor a state over 9, latches over 63 or a class over 255 at any of the 48 places"
+unfoldable pub imageable : List ℕ → Bool
+imageable l = eqb (length l) cellsLong && every 48 (portSaves l)
+
+-- cells that no image holds are not saved, and a room of another length is not written
+unfoldable pub saves : List ℕ → List ℕ → Bool
+saves l room = imageable l && eqb (length room) 1014
+
+unfoldable pub roomAfter : List ℕ → List ℕ → List ℕ
+roomAfter l room = cond (saves l room) (imageOf (tableOf l)) room

@@ -1,94 +1,28 @@
--- A table reads back as it was written, and an image that reads is rewritten the same.
+-- A table reads back as it was written, an image that reads is rewritten the same, and cells that were saved and restored are the table that
+-- they were.
 -- Assumes nothing.
 use mathlib.Core.Path.{_≡_, refl, sym, _∙_, ap, ap₂}
 use mathlib.Core.Bool.{true}
 use mathlib.Core.List.{List, [], _∷_, _++_}
 use mathlib.Core.Logic.{⊎-elim}
-use Prim.Native.Nat.{ℕ, _+_, _-_, _*_, _/_, _%_, _≤_, _<_, _^_}
+use Prim.Native.Nat.{ℕ, _+_, _-_, _*_, _/_, _%_, _≤_, _<_}
 use native.Mathlib.Omega.{arith}
 use lib.Dec.{ltb, leb, eqb}
 use lib.ListN.{length, getD}
 use borrow.Author.Tests.{lt-ltb, le-ltb, le-leb, leb-true, ltb-true, eq-eqb, eqb-true}
-use Rattle.lists.specs.Bits.{bit, one-small, one-says}
-use Rattle.lists.specs.Every.{every-at, every-of}
+use Rattle.lists.specs.Every.{every-of}
 use Rattle.lists.specs.Places.{side, tabulate, length-tabulate, getD-tabulate, tabulated}
-use Rattle.lists.specs.Table.{all, entry}
 use Rattle.lists.specs.Tests.{and-left, and-right}
 use Rattle.power.specs.Power.{tenths}
-use Rattle.words.specs.declared.status.Latches.{Latches}
 use Rattle.port.specs.declared.form.Port.{Port}
-use Rattle.port.specs.declared.form.State.{State}
-use Rattle.port.specs.declared.form.State.the-variants.{Disabled, Idle, Detecting, Backoff, Classifying, PowerUp, PowerOn, ErrorDelay, TestMode, TestError}
 use Rattle.table.specs.Form.{noPort, portAt}
 use Rattle.table.specs.declared.form.Table.{Table}
-use Rattle.port.specs.States.{codeOf}
-use Rattle.image.specs.Image.{latchByte, word, portBytes, headBytes, byteAt, imageOf}
-use Rattle.image.specs.Load.{stateOf, latchesOf, wordAt, countsIn, portIn, portReads, tableOf, reads, reads-long, loaded}
-
--- a state's code names it
-pub state-back : (s : State) → stateOf (codeOf s) ≡ s
-state-back Disabled = refl
-state-back Idle = refl
-state-back Detecting = refl
-state-back Backoff = refl
-state-back Classifying = refl
-state-back PowerUp = refl
-state-back PowerOn = refl
-state-back ErrorDelay = refl
-state-back TestMode = refl
-state-back TestError = refl
-
-pub code-small : (s : State) → codeOf s ≤ 9
-code-small Disabled = omega arith
-code-small Idle = omega arith
-code-small Detecting = omega arith
-code-small Backoff = omega arith
-code-small Classifying = omega arith
-code-small PowerUp = omega arith
-code-small PowerOn = omega arith
-code-small ErrorDelay = omega arith
-code-small TestMode = omega arith
-code-small TestError = omega arith
-
--- a code up to 9 is the code of the state that it names
-pub code-again : (n : ℕ) → n ≤ 9 → codeOf (stateOf n) ≡ n
-unfolding all tabulate
-code-again n h =
-    ap (λ (m : ℕ). codeOf (stateOf m)) (sym (getD-tabulate 10 (λ k. k) 0 n (omega arith)))
-    ∙ eqb-true _ _ (entry (λ m. eqb (codeOf (stateOf m)) m) 0 (tabulate 10 (λ k. k)) refl n (omega arith))
-    ∙ getD-tabulate 10 (λ k. k) 0 n (omega arith)
-
--- each latch has its own bit
-pub latches-back : (l : Latches) → latchesOf (latchByte l) ≡ l
-unfolding latchesOf latchByte bit
-latches-back l =
-    let d = one-small (l .denied) in
-    let v = one-small (l .valid) in
-    let i = one-small (l .invalid) in
-    let s = one-small (l .short) in
-    let o = one-small (l .overload) in
-    let a = one-small (l .absent) in
-    λ k.
-    record {
-      denied = one-says (l .denied) (latchByte l / 2 ^ 5 % 2) (omega arith) k;
-      valid = one-says (l .valid) (latchByte l / 2 ^ 4 % 2) (omega arith) k;
-      invalid = one-says (l .invalid) (latchByte l / 2 ^ 3 % 2) (omega arith) k;
-      short = one-says (l .short) (latchByte l / 2 ^ 2 % 2) (omega arith) k;
-      overload = one-says (l .overload) (latchByte l / 2 ^ 1 % 2) (omega arith) k;
-      absent = one-says (l .absent) (latchByte l / 2 ^ 0 % 2) (omega arith) k;
-    }
-
-pub latches-small : (l : Latches) → latchByte l < 64
-unfolding latchByte
-latches-small l = omega (arith, one-small (l .denied), one-small (l .valid), one-small (l .invalid), one-small (l .short), one-small (l .overload), one-small (l .absent))
-
--- a byte below 64 is the latches that it names
-pub latches-again : (n : ℕ) → n < 64 → latchByte (latchesOf n) ≡ n
-unfolding all tabulate latchByte latchesOf bit
-latches-again n h =
-    ap (λ (m : ℕ). latchByte (latchesOf m)) (sym (getD-tabulate 64 (λ k. k) 0 n h))
-    ∙ eqb-true _ _ (entry (λ m. eqb (latchByte (latchesOf m)) m) 0 (tabulate 64 (λ k. k)) refl n h)
-    ∙ getD-tabulate 64 (λ k. k) 0 n h
+use Rattle.cells.specs.Cells.{portOf, tableOf, cellsOf}
+use Rattle.cells.specs.CodeLaws.{state-back, code-small, code-again, latches-back, latches-small, latches-again}
+use Rattle.cells.specs.Codes.{stateOf, latchesOf}
+use Rattle.cells.specs.Round.{cells-long, cells-port, cells-holds, cells-table}
+use Rattle.image.specs.Image.{word, portBytes, headBytes, byteAt, imageOf, portSaves, imageable, saves, roomAfter}
+use Rattle.image.specs.Load.{wordAt, countsIn, portIn, portReads, tableIn, reads, reads-long, reads-port, restores, cellsRestored}
 
 -- what stands at a place of the image: a byte of the head, or of a port
 pub head-byte : (t : Table) (k : ℕ) → k < 6 → byteAt t k ≡ getD (headBytes t) k 0
@@ -162,8 +96,9 @@ module _ (t : Table) (p : ℕ) (h : p < 48) where
   unfolding portAt
   port-there = sym port-back
 
-pub table-back : (t : Table) → length (t .ports) ≡ 48 → tableOf (imageOf t) ≡ t
-unfolding tableOf wordAt headBytes
+-- a table reads back as it was written
+pub table-back : (t : Table) → length (t .ports) ≡ 48 → tableIn (imageOf t) ≡ t
+unfolding tableIn wordAt headBytes
 table-back t l =
     let c0 = image-head t 0 (omega arith) in
     let c1 = image-head t 1 (omega arith) in
@@ -182,10 +117,25 @@ image-reads t =
     let supply : wordAt (imageOf t) 2 ≡ 0 = omega arith in
     simp (eq-eqb _ _ (image-long t), eq-eqb _ _ supply, every-of 48 (λ p. portReads (imageOf t) (6 + 21 * p)) (port-takes t))
 
--- a table reads back as it was written
-pub reads-back : (t : Table) → length (t .ports) ≡ 48 → loaded (imageOf t) ≡ record { table = t; ok = true }
-unfolding loaded
-reads-back t l = simp (image-reads t, table-back t l)
+-- ---- cells, saved and restored
+
+-- the image of a table makes any cells of the right number that table's
+pub restored-image : (t : Table) (m : List ℕ) → length (t .ports) ≡ 48 → length m ≡ 728 → cellsRestored (imageOf t) m ≡ cellsOf t
+unfolding cellsRestored restores
+restored-image t m long fits = simp (image-reads t, eq-eqb _ _ fits) (ap cellsOf (table-back t long))
+
+pub table-ports : (l : List ℕ) → length (tableOf l .ports) ≡ 48
+unfolding tableOf
+table-ports l = length-tabulate 48 (portOf l)
+
+-- cells restored from the image of others are the table that those are
+pub image-kept : (l m : List ℕ) → length m ≡ 728 → tableOf (cellsRestored (imageOf (tableOf l)) m) ≡ tableOf l
+image-kept l m fits = ap tableOf (restored-image (tableOf l) m (table-ports l) fits) ∙ cells-table (tableOf l) (table-ports l)
+
+-- cells that are saved come back as the table that they were
+pub saved-restored : (l room m : List ℕ) → saves l room ≡ true → length m ≡ 728 → tableOf (cellsRestored (roomAfter l room) m) ≡ tableOf l
+unfolding roomAfter
+saved-restored l room m e fits = simp e (image-kept l m fits)
 
 -- bytes that are an image
 module _ (bytes : List ℕ) (octets : (k : ℕ) → getD bytes k 0 < 256) where
@@ -224,12 +174,8 @@ module _ (bytes : List ℕ) (octets : (k : ℕ) → getD bytes k 0 < 256) where
     unfolding reads
     supply-again = eqb-true _ _ (and-left (eqb (wordAt bytes 2) 0) _ (and-right (eqb (length bytes) 1014) _ read))
 
-    port-read : (p : ℕ) → p < 48 → portReads bytes (6 + 21 * p) ≡ true
-    unfolding reads
-    port-read = every-at 48 (λ p. portReads bytes (6 + 21 * p)) (and-right (eqb (wordAt bytes 2) 0) _ (and-right (eqb (length bytes) 1014) _ read))
-
-    head-again : headBytes (tableOf bytes) ≡ tabulate 6 (λ q. getD bytes q 0)
-    unfolding headBytes tableOf tabulate wordAt
+    head-again : headBytes (tableIn bytes) ≡ tabulate 6 (λ q. getD bytes q 0)
+    unfolding headBytes tableIn tabulate wordAt
     head-again =
         let e = supply-again in
         word-again 0 0 1 _ _ refl refl
@@ -237,11 +183,11 @@ module _ (bytes : List ℕ) (octets : (k : ℕ) → getD bytes k 0 < 256) where
         (ap₂ _∷_ (omega arith)
         (word-again 4 4 5 [] [] refl refl refl)))
 
-    port-at : (p : ℕ) → p < 48 → portAt (tableOf bytes) p ≡ portIn bytes (6 + 21 * p)
-    unfolding portAt tableOf
+    port-at : (p : ℕ) → p < 48 → portAt (tableIn bytes) p ≡ portIn bytes (6 + 21 * p)
+    unfolding portAt tableIn
     port-at p h = getD-tabulate 48 (λ p. portIn bytes (6 + 21 * p)) noPort p h
 
-    byte-again : (k : ℕ) → k < 1014 → getD bytes k 0 ≡ byteAt (tableOf bytes) k
+    byte-again : (k : ℕ) → k < 1014 → getD bytes k 0 ≡ byteAt (tableIn bytes) k
     unfolding byteAt
     byte-again k h =
         ⊎-elim
@@ -252,11 +198,33 @@ module _ (bytes : List ℕ) (octets : (k : ℕ) → getD bytes k 0 < 256) where
         let a : p < 48 = omega arith in
         let b : q < 21 = omega arith in
         let e : 6 + 21 * p + q ≡ k = omega arith in
-        simp (le-ltb k 6 l, port-at p a, port-again (6 + 21 * p) (port-read p a))
+        simp (le-ltb k 6 l, port-at p a, port-again (6 + 21 * p) (reads-port bytes read p a))
         (sym (getD-tabulate 21 (λ q. getD bytes (6 + 21 * p + q) 0) 0 q b ∙ ap (λ (n : ℕ). getD bytes n 0) e)))
         (side k 6)
 
     -- an image that reads is rewritten the same
-    pub rewritten : imageOf (tableOf bytes) ≡ bytes
+    pub rewritten : imageOf (tableIn bytes) ≡ bytes
     unfolding imageOf
-    rewritten = sym (tabulated 1014 (byteAt (tableOf bytes)) 0 bytes (reads-long bytes read) byte-again)
+    rewritten = sym (tabulated 1014 (byteAt (tableIn bytes)) 0 bytes (reads-long bytes read) byte-again)
+
+    byte-class : (p : ℕ) → p < 48 → portSaves (cellsOf (tableIn bytes)) p ≡ true
+    unfolding portSaves portOf portIn
+    byte-class p h =
+        let e : getD (cellsOf (tableIn bytes)) (152 + p) 0 ≡ getD bytes (6 + 21 * p + 3) 0 = ap (λ (x : Port). x .class) (cells-port (tableIn bytes) p h ∙ port-at p h) in
+        simp (cells-holds (tableIn bytes) p h, e, lt-ltb _ _ (octets (6 + 21 * p + 3)))
+
+    same : (l : List ℕ) → length l ≡ 728 → tableOf (cellsRestored bytes l) ≡ tableIn bytes
+    unfolding cellsRestored restores tableIn
+    same l fits = simp (read, eq-eqb _ _ fits) (cells-table (tableIn bytes) (length-tabulate 48 (λ p. portIn bytes (6 + 21 * p))))
+
+    -- what was restored can be saved, and then stands in the room as it was
+    pub restored-saves : (l room : List ℕ) → length l ≡ 728 → length room ≡ 1014 → saves (cellsRestored bytes l) room ≡ true
+    unfolding cellsRestored restores saves imageable
+    restored-saves l room fits spare =
+        let t = tableIn bytes in
+        simp (read, eq-eqb _ _ fits, eq-eqb _ _ spare, eq-eqb _ _ (cells-long t), every-of 48 (portSaves (cellsOf t)) byte-class)
+
+    pub restored-saved : (l room : List ℕ) → length l ≡ 728 → length room ≡ 1014 → roomAfter (cellsRestored bytes l) room ≡ bytes
+    unfolding roomAfter
+    restored-saved l room fits spare =
+        simp (restored-saves l room fits spare) (ap imageOf (same l fits) ∙ rewritten)

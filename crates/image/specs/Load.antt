@@ -1,41 +1,20 @@
 -- The table that an image is, and which bytes are one.
-use Prim.Native.Nat.{ℕ, _+_, _*_}
+use Prim.Native.Nat.{ℕ, _+_, _*_, _<_}
 use mathlib.Core.Path.{_≡_}
-use mathlib.Core.Bool.{Bool, true, false, cond, _&&_}
+use mathlib.Core.Bool.{Bool, true, cond, _&&_}
 use mathlib.Core.List.{List}
 use lib.Dec.{leb, ltb, eqb}
 use lib.ListN.{length, getD}
 use borrow.Author.Tests.{eqb-true}
-use Rattle.lists.specs.Bits.{bit}
-use Rattle.lists.specs.Every.{every}
+use Rattle.lists.specs.Every.{every, every-at}
 use Rattle.lists.specs.Places.{tabulate}
-use Rattle.lists.specs.Tests.{and-left}
+use Rattle.lists.specs.Tests.{and-left, and-right}
 use Rattle.power.specs.Power.{tenths}
-use Rattle.words.specs.declared.status.Latches.{Latches}
 use Rattle.port.specs.declared.form.Counts.{Counts}
 use Rattle.port.specs.declared.form.Port.{Port}
-use Rattle.port.specs.declared.form.State.{State}
-use Rattle.port.specs.declared.form.State.the-variants.{Disabled, Idle, Detecting, Backoff, Classifying, PowerUp, PowerOn, ErrorDelay, TestMode, TestError}
-use Rattle.calls.specs.Calls.{coldTable}
 use Rattle.table.specs.declared.form.Table.{Table}
-use Rattle.image.specs.declared.load.Loaded.{Loaded}
-
--- the state that a code names; a code over 9 is none, and its image is refused
-abbrev pub stateOf : ℕ → State
-stateOf n =
-    cond (eqb n 0) Disabled
-    (cond (eqb n 1) Idle
-    (cond (eqb n 2) Detecting
-    (cond (eqb n 3) Backoff
-    (cond (eqb n 4) Classifying
-    (cond (eqb n 5) PowerUp
-    (cond (eqb n 6) PowerOn
-    (cond (eqb n 7) ErrorDelay
-    (cond (eqb n 8) TestMode TestError))))))))
-
--- docs/CONSOLE.md: "bit 5 denied, 4 valid, 3 invalid, 2 short circuit, 1 overload, 0 load absent"
-unfoldable pub latchesOf : ℕ → Latches
-latchesOf n = record { denied = bit 5 n; valid = bit 4 n; invalid = bit 3 n; short = bit 2 n; overload = bit 1 n; absent = bit 0 n }
+use Rattle.cells.specs.Cells.{cellsLong, cellsOf}
+use Rattle.cells.specs.Codes.{stateOf, latchesOf}
 
 -- two bytes, the high one first
 unfoldable pub wordAt : List ℕ → ℕ → ℕ
@@ -65,8 +44,8 @@ portIn bytes at =
       counts = countsIn bytes (at + 7);
     }
 
-unfoldable pub tableOf : List ℕ → Table
-tableOf bytes = record { ports = tabulate 48 (λ p. portIn bytes (6 + 21 * p)); count = wordAt bytes 0; supply = tenths (wordAt bytes 4) }
+unfoldable pub tableIn : List ℕ → Table
+tableIn bytes = record { ports = tabulate 48 (λ p. portIn bytes (6 + 21 * p)); count = wordAt bytes 0; supply = tenths (wordAt bytes 4) }
 
 -- no state over 9, and no latch bit over 5 set
 unfoldable pub portReads : List ℕ → ℕ → Bool
@@ -80,6 +59,14 @@ pub reads-long : (bytes : List ℕ) → reads bytes ≡ true → length bytes �
 unfolding reads
 reads-long bytes e = eqb-true (length bytes) 1014 (and-left (eqb (length bytes) 1014) _ e)
 
--- what is not an image answers the cold table of no ports
-unfoldable pub loaded : List ℕ → Loaded
-loaded bytes = cond (reads bytes) (record { table = tableOf bytes; ok = true }) (record { table = coldTable 0; ok = false })
+pub reads-port : (bytes : List ℕ) → reads bytes ≡ true → (p : ℕ) → p < 48 → portReads bytes (6 + 21 * p) ≡ true
+unfolding reads
+reads-port bytes e = every-at 48 (λ p. portReads bytes (6 + 21 * p)) (and-right (eqb (wordAt bytes 2) 0) _ (and-right (eqb (length bytes) 1014) _ e))
+
+-- bytes are restored if they are an image and the cells are as many as a table's, whatever these hold
+unfoldable pub restores : List ℕ → List ℕ → Bool
+restores bytes l = reads bytes && eqb (length l) cellsLong
+
+-- the cells afterwards: the image's table, and 0 in every cell that is nobody's; if nothing is restored, as they were
+unfoldable pub cellsRestored : List ℕ → List ℕ → List ℕ
+cellsRestored bytes l = cond (restores bytes l) (cellsOf (tableIn bytes)) l

@@ -1,3 +1,3 @@
-// The table's image: 1,014 bytes, big-endian. Whoever drives the core from outside hands a table in and takes it out by it.
+// The table's image: 1,014 bytes, big-endian. Whoever keeps a table, or drives the core from outside, saves it by this and restores it.
 pub mod load;
 pub mod store;

@@ -1,90 +1,17 @@
-// From the bytes of an image to the table.
-use port::form::Counts;
-use port::form::Port;
-use port::form::State;
-use power::Power;
-use table::form::Table;
-use words::status::Latches;
+// From the bytes of an image to the cells of its table.
 ghost use mathlib.Core.Path.{_≡_};
+ghost use mathlib.Core.Bool.{true};
 ghost use Prim.Native.Nat.{_+_, _<_};
-ghost use lib.ListN.{length};
-ghost use Rattle.calls.specs.Calls.{coldTable};
-ghost use Rattle.image.specs.Load.{stateOf, latchesOf, wordAt, countsIn, portIn, portReads, tableOf, reads, loaded};
-
-// An enum holds no array, so whether the bytes were an image stands beside the table.
-pub struct Loaded {
-    pub table: Table,
-    pub ok: bool,
-}
-
-fn state_of(code: u8) -> State
-    ensures { λ r. ⌜ r ≡ stateOf code ⌝ }
-{
-    match code {
-        0 => State::Disabled,
-        1 => State::Idle,
-        2 => State::Detecting,
-        3 => State::Backoff,
-        4 => State::Classifying,
-        5 => State::PowerUp,
-        6 => State::PowerOn,
-        7 => State::ErrorDelay,
-        8 => State::TestMode,
-        _ => State::TestError,
-    }
-}
-
-fn latches_of(byte: u8) -> Latches
-    ensures { λ r. ⌜ r ≡ latchesOf byte ⌝ }
-{
-    Latches {
-        denied: byte / 32 % 2 == 1,
-        valid: byte / 16 % 2 == 1,
-        invalid: byte / 8 % 2 == 1,
-        short: byte / 4 % 2 == 1,
-        overload: byte / 2 % 2 == 1,
-        absent: byte % 2 == 1,
-    }
-}
+ghost use lib.ListN.{length, replicate};
+ghost use Rattle.cells.specs.Cells.{cellsOf};
+ghost use Rattle.cells.specs.Writes.{withPortCells, withCountCells};
+ghost use Rattle.image.specs.Load.{wordAt, countsIn, portIn, portReads, tableIn, reads, restores, cellsRestored};
 
 fn word_at(bytes: &[u8], at: usize) -> u16
     requires { ⌜ at + 1 < length (now bytes) ⌝ }
     ensures { λ r. ⌜ r ≡ wordAt (now (bytes .entry)) at ⌝ }
 {
     bytes[at] as u16 * 256 + bytes[at + 1] as u16
-}
-
-fn counts_in(bytes: &[u8], at: usize) -> Counts
-    requires { ⌜ at + 13 < length (now bytes) ⌝ }
-    ensures { λ r. ⌜ r ≡ countsIn (now (bytes .entry)) at ⌝ }
-{
-    Counts {
-        detection: word_at(bytes, at),
-        backoff: word_at(bytes, at + 2),
-        error_delay: word_at(bytes, at + 4),
-        power_on: word_at(bytes, at + 6),
-        limiting: word_at(bytes, at + 8),
-        overload: word_at(bytes, at + 10),
-        no_load: word_at(bytes, at + 12),
-    }
-}
-
-fn port_in(bytes: &[u8], at: usize) -> Port
-    requires { ⌜ at + 20 < length (now bytes) ⌝ }
-    ensures { λ r. ⌜ r ≡ portIn (now (bytes .entry)) at ⌝ }
-{
-    let state = state_of(bytes[at]);
-    let demand = Power(word_at(bytes, at + 4));
-    let latches = latches_of(bytes[at + 6]);
-    let counts = counts_in(bytes, at + 7);
-    Port {
-        state,
-        class: bytes[at + 3],
-        control: word_at(bytes, at + 1),
-        demand,
-        latches,
-        counts,
-    }
 }
 
 fn port_reads(bytes: &[u8], at: usize) -> bool
@@ -116,37 +43,75 @@ fn reads(bytes: &[u8]) -> bool
     true
 }
 
-// The table of no ports that a refused cold start answers.
-fn blank() -> Table
-    ensures { λ r. ⌜ r ≡ coldTable 0 ⌝ }
+// What is nobody's is 0.
+fn clear(cells: &mut [u16])
+    requires { ⌜ length (now cells) ≡ 728 ⌝ }
+    ensures { λ _. ⌜ now (cells .exit) ≡ replicate 728 0 ⌝ }
 {
-    calls::cold_start(0).table
+    let mut k = 0;
+    while k < 728 {
+        cells[k] = 0;
+        k += 1;
+    }
 }
 
-fn table_of(bytes: &[u8]) -> Table
-    requires { ⌜ length (now bytes) ≡ 1014 ⌝ }
-    ensures { λ r. ⌜ r ≡ tableOf (now (bytes .entry)) ⌝ }
+fn put_counts(bytes: &[u8], at: usize, cells: &mut [u16], p: usize)
+    requires { ⌜ at + 13 < length (now bytes) ⌝ }
+    requires { ⌜ length (now cells) ≡ 728 ⌝ }
+    requires { ⌜ p < 48 ⌝ }
+    ensures { λ _. ⌜ now (cells .exit) ≡ withCountCells p (countsIn (now (bytes .entry)) at) (now (cells .entry)) ⌝ }
 {
-    let mut after = blank();
+    cells[248 + p] = word_at(bytes, at);
+    cells[296 + p] = word_at(bytes, at + 2);
+    cells[344 + p] = word_at(bytes, at + 4);
+    cells[392 + p] = word_at(bytes, at + 6);
+    cells[440 + p] = word_at(bytes, at + 8);
+    cells[488 + p] = word_at(bytes, at + 10);
+    cells[536 + p] = word_at(bytes, at + 12);
+}
+
+// A state and latches that read are their own codes.
+fn put_port(bytes: &[u8], at: usize, cells: &mut [u16], p: usize)
+    requires { ⌜ at + 20 < length (now bytes) ⌝ }
+    requires { ⌜ portReads (now bytes) at ≡ true ⌝ }
+    requires { ⌜ length (now cells) ≡ 728 ⌝ }
+    requires { ⌜ p < 48 ⌝ }
+    ensures { λ _. ⌜ now (cells .exit) ≡ withPortCells p (portIn (now (bytes .entry)) at) (now (cells .entry)) ⌝ }
+{
+    cells[8 + p] = bytes[at] as u16;
+    cells[56 + p] = word_at(bytes, at + 1);
+    cells[104 + p] = word_at(bytes, at + 4);
+    cells[152 + p] = bytes[at + 3] as u16;
+    cells[200 + p] = bytes[at + 6] as u16;
+    put_counts(bytes, at + 7, cells, p);
+}
+
+fn put(bytes: &[u8], cells: &mut [u16])
+    requires { ⌜ reads (now bytes) ≡ true ⌝ }
+    requires { ⌜ length (now cells) ≡ 728 ⌝ }
+    ensures { λ _. ⌜ now (cells .exit) ≡ cellsOf (tableIn (now (bytes .entry))) ⌝ }
+{
+    clear(cells);
+    cells[0] = word_at(bytes, 0);
+    cells[1] = word_at(bytes, 4);
     let mut p = 0;
     while p < 48 {
-        let port = port_in(bytes, 6 + 21 * p);
-        after.ports[p] = port;
+        put_port(bytes, 6 + 21 * p, cells, p);
         p += 1;
     }
-    after.count = word_at(bytes, 0);
-    let supply = Power(word_at(bytes, 4));
-    after.supply = supply;
-    after
 }
 
-pub fn load(bytes: &[u8]) -> Loaded
-    ensures { λ r. ⌜ r ≡ loaded (now (bytes .entry)) ⌝ }
+// All is looked at before the first cell is written. What the cells held is of no matter.
+pub fn load(bytes: &[u8], cells: &mut [u16]) -> bool
+    ensures { λ r. ⌜ r ≡ restores (now (bytes .entry)) (now (cells .entry)) ⌝ }
+    ensures { λ _. ⌜ now (cells .exit) ≡ cellsRestored (now (bytes .entry)) (now (cells .entry)) ⌝ }
 {
-    if reads(bytes) {
-        let table = table_of(bytes);
-        return Loaded { table, ok: true };
+    if cells.len() != 728 {
+        return false;
     }
-    let table = blank();
-    Loaded { table, ok: false }
+    if !reads(bytes) {
+        return false;
+    }
+    put(bytes, cells);
+    true
 }

@@ -1,49 +1,40 @@
-// From the table to the bytes of its image, in room that the caller lends.
-use port::form::Counts;
-use port::form::Port;
-use port::form::State;
-use table::form::Table;
-use words::status::Latches;
+// From the cells of a table to the bytes of its image, in room that the caller lends.
 ghost use mathlib.Core.Path.{_≡_};
-ghost use Prim.Native.Nat.{_*_, _/_, _%_, _<_, _≤_};
+ghost use mathlib.Core.Bool.{true};
+ghost use Prim.Native.Nat.{_/_, _%_, _<_};
 ghost use lib.ListN.{length};
-ghost use Rattle.lists.specs.Bits.{one};
-ghost use Rattle.port.specs.States.{codeOf};
-ghost use Rattle.image.specs.Image.{latchByte, portBytes, headBytes, imageOf, stores, roomAfter};
+ghost use Rattle.cells.specs.Cells.{portOf, tableOf};
+ghost use Rattle.image.specs.Image.{portBytes, headBytes, imageOf, portSaves, imageable, saves, roomAfter};
 
-fn code_of(state: State) -> u8
-    ensures { λ r. ⌜ r ≡ codeOf state ⌝ }
+fn port_saves(cells: &[u16], p: usize) -> bool
+    requires { ⌜ length (now cells) ≡ 728 ⌝ }
+    requires { ⌜ p < 48 ⌝ }
+    ensures { λ r. ⌜ r ≡ portSaves (now (cells .entry)) p ⌝ }
 {
-    match state {
-        State::Disabled => 0,
-        State::Idle => 1,
-        State::Detecting => 2,
-        State::Backoff => 3,
-        State::Classifying => 4,
-        State::PowerUp => 5,
-        State::PowerOn => 6,
-        State::ErrorDelay => 7,
-        State::TestMode => 8,
-        State::TestError => 9,
+    if 9 < cells[8 + p] {
+        return false;
     }
+    if 64 <= cells[200 + p] {
+        return false;
+    }
+    cells[152 + p] < 256
 }
 
-// A set latch counts as much as its place.
-fn place(set: bool, value: u8) -> u8
-    ensures { λ r. ⌜ (r ≡ one set * value) × (r ≤ value) ⌝ }
+// The places past the count too: an image has one byte for each of these.
+pub fn imageable(cells: &[u16]) -> bool
+    ensures { λ r. ⌜ r ≡ imageable (now (cells .entry)) ⌝ }
 {
-    if set { value } else { 0 }
-}
-
-fn latch_byte(latches: Latches) -> u8
-    ensures { λ r. ⌜ r ≡ latchByte latches ⌝ }
-{
-    place(latches.denied, 32)
-        + place(latches.valid, 16)
-        + place(latches.invalid, 8)
-        + place(latches.short, 4)
-        + place(latches.overload, 2)
-        + place(latches.absent, 1)
+    if cells.len() != 728 {
+        return false;
+    }
+    let mut p = 0;
+    while p < 48 {
+        if !port_saves(cells, p) {
+            return false;
+        }
+        p += 1;
+    }
+    true
 }
 
 fn high(word: u16) -> u8
@@ -58,58 +49,66 @@ fn low(word: u16) -> u8
     (word % 256) as u8
 }
 
-fn port_bytes(port: Port) -> [u8; 21]
-    ensures { λ r. ⌜ r ≡ portBytes port ⌝ }
+// A state and latches that there are are their own codes.
+fn port_bytes(cells: &[u16], p: usize) -> [u8; 21]
+    requires { ⌜ length (now cells) ≡ 728 ⌝ }
+    requires { ⌜ p < 48 ⌝ }
+    requires { ⌜ portSaves (now cells) p ≡ true ⌝ }
+    ensures { λ r. ⌜ r ≡ portBytes (portOf (now (cells .entry)) p) ⌝ }
 {
-    let state = port.state;
-    let demand = port.demand.0;
-    let latches = port.latches;
-    let counts = port.counts;
+    let state = cells[8 + p];
+    let control = cells[56 + p];
+    let demand = cells[104 + p];
+    let class = cells[152 + p];
+    let latches = cells[200 + p];
+    let detection = cells[248 + p];
+    let backoff = cells[296 + p];
+    let error_delay = cells[344 + p];
+    let power_on = cells[392 + p];
+    let limiting = cells[440 + p];
+    let overload = cells[488 + p];
+    let no_load = cells[536 + p];
     [
-        code_of(state),
-        high(port.control),
-        low(port.control),
-        port.class,
+        low(state),
+        high(control),
+        low(control),
+        low(class),
         high(demand),
         low(demand),
-        latch_byte(latches),
-        high(counts.detection),
-        low(counts.detection),
-        high(counts.backoff),
-        low(counts.backoff),
-        high(counts.error_delay),
-        low(counts.error_delay),
-        high(counts.power_on),
-        low(counts.power_on),
-        high(counts.limiting),
-        low(counts.limiting),
-        high(counts.overload),
-        low(counts.overload),
-        high(counts.no_load),
-        low(counts.no_load),
+        low(latches),
+        high(detection),
+        low(detection),
+        high(backoff),
+        low(backoff),
+        high(error_delay),
+        low(error_delay),
+        high(power_on),
+        low(power_on),
+        high(limiting),
+        low(limiting),
+        high(overload),
+        low(overload),
+        high(no_load),
+        low(no_load),
     ]
 }
 
-fn head_bytes(table: Table) -> [u8; 6]
-    ensures { λ r. ⌜ r ≡ headBytes table ⌝ }
+fn head_bytes(cells: &[u16]) -> [u8; 6]
+    requires { ⌜ length (now cells) ≡ 728 ⌝ }
+    ensures { λ r. ⌜ r ≡ headBytes (tableOf (now (cells .entry))) ⌝ }
 {
-    let supply = table.supply.0;
-    [
-        high(table.count),
-        low(table.count),
-        0,
-        0,
-        high(supply),
-        low(supply),
-    ]
+    let count = cells[0];
+    let supply = cells[1];
+    [high(count), low(count), 0, 0, high(supply), low(supply)]
 }
 
 // A port's bytes are worked out once, and then written.
-fn put(table: Table, room: &mut [u8])
+fn put(cells: &[u16], room: &mut [u8])
+    requires { ⌜ imageable (now cells) ≡ true ⌝ }
     requires { ⌜ length (now room) ≡ 1014 ⌝ }
-    ensures { λ _. ⌜ now (room .exit) ≡ imageOf table ⌝ }
+    ensures { λ _. ⌜ now (room .exit) ≡ imageOf (tableOf (now (cells .entry))) ⌝ }
 {
-    let head = head_bytes(table);
+    let head = head_bytes(cells);
     let mut k = 0;
     while k < 6 {
         room[k] = head[k];
@@ -117,8 +116,7 @@ fn put(table: Table, room: &mut [u8])
     }
     let mut p = 0;
     while p < 48 {
-        let port = table.ports[p];
-        let bytes = port_bytes(port);
+        let bytes = port_bytes(cells, p);
         let mut q = 0;
         while q < 21 {
             room[6 + 21 * p + q] = bytes[q];
@@ -128,13 +126,17 @@ fn put(table: Table, room: &mut [u8])
     }
 }
 
-// The length is looked at before the first byte is written.
-pub fn store(table: Table, room: &mut [u8]) -> bool
-    ensures { λ r. ⌜ (r ≡ stores (now (room .entry))) × (now (room .exit) ≡ roomAfter table (now (room .entry))) ⌝ }
+// All is looked at before the first byte is written.
+pub fn store(cells: &[u16], room: &mut [u8]) -> bool
+    ensures { λ r. ⌜ r ≡ saves (now (cells .entry)) (now (room .entry)) ⌝ }
+    ensures { λ _. ⌜ now (room .exit) ≡ roomAfter (now (cells .entry)) (now (room .entry)) ⌝ }
 {
     if room.len() != 1_014 {
         return false;
     }
-    put(table, room);
+    if !imageable(cells) {
+        return false;
+    }
+    put(cells, room);
     true
 }

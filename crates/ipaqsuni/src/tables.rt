@@ -1,76 +1,52 @@
-// The calls on a table that the caller lends as an image. The table's bytes are written last, and only by an accepted call.
+// The calls on a table that the caller lends as cells, and its image. The core changes the cells where they stand; here its answer becomes
+// a number.
 use image::load::load;
+use image::store::imageable;
 use image::store::store;
 use table::form::Answer;
 use table::form::Closed;
 use table::form::Status;
-use table::form::Told;
 ghost use mathlib.Core.Path.{_≡_};
-ghost use mathlib.Core.Bool.{true};
-ghost use Rattle.image.specs.Image.{imageOf, stores};
-ghost use Rattle.ipaqsuni.specs.Outcome.{numberOf, leaves};
-ghost use Rattle.ipaqsuni.specs.Calls.{ofTold, coldCall, controlCall, statusCall, requestCall, tickCall, imageRead, wordRead, imageTicked, maskATicked, maskBTicked, closedTicked};
+ghost use Rattle.cells.specs.Lent.{cellsTold, cellsRead, cellsTicked, cellsCold};
+ghost use Rattle.calls.specs.OnCells.{startOn, controlOn, statusOn, requestOn};
+ghost use Rattle.tick.specs.OnCells.{tickOn};
+ghost use Rattle.image.specs.Image.{roomAfter};
+ghost use Rattle.image.specs.Load.{cellsRestored};
+ghost use Rattle.ipaqsuni.specs.Calls.{answerNumber, statusNumber, wordLeft, tickNumber, maskALeft, maskBLeft, closedLeft, saveNumber, restoreNumber};
 
-fn keep(told: Told, bytes: &mut [u8]) -> u32
-    requires { ⌜ stores (now bytes) ≡ true ⌝ }
-    ensures { λ r. ⌜ r ≡ numberOf (ofTold told) ⌝ }
-    ensures { λ _. ⌜ now (bytes .exit) ≡ leaves imageOf (ofTold told) (now (bytes .entry)) ⌝ }
+fn number_of(answer: Answer) -> u32
+    ensures { λ r. ⌜ r ≡ answerNumber answer ⌝ }
 {
-    let answer = told.answer;
     match answer {
-        Answer::Done => {
-            let after = told.table;
-            store(after, bytes);
-            0
-        }
+        Answer::Done => 0,
         Answer::Refused(number) => number as u32,
     }
 }
 
 #[no_mangle]
-pub extern "C" fn ipaqsuni_cold_start(table: &mut [u8], ports: u32) -> u32
-    ensures { λ r. ⌜ r ≡ numberOf (coldCall (now (table .entry)) ports) ⌝ }
-    ensures { λ _. ⌜ now (table .exit) ≡ leaves imageOf (coldCall (now (table .entry)) ports) (now (table .entry)) ⌝ }
+pub extern "C" fn ipaqsuni_cold_start(cells: &mut [u16], ports: u32) -> u32
+    ensures { λ r. ⌜ r ≡ answerNumber (startOn (now (cells .entry)) ports .answer) ⌝ }
+    ensures { λ _. ⌜ now (cells .exit) ≡ cellsCold (startOn (now (cells .entry)) ports) (now (cells .entry)) ⌝ }
 {
-    if table.len() != 1_014 {
-        return 13;
-    }
-    keep(calls::cold_start(ports as u64), table)
+    number_of(calls::cold_start(cells, ports as u64))
 }
 
 #[no_mangle]
-pub extern "C" fn ipaqsuni_write_control(table: &mut [u8], port: u32, word: u32) -> u32
-    ensures { λ r. ⌜ r ≡ numberOf (controlCall (now (table .entry)) port word) ⌝ }
-    ensures { λ _. ⌜ now (table .exit) ≡ leaves imageOf (controlCall (now (table .entry)) port word) (now (table .entry)) ⌝ }
+pub extern "C" fn ipaqsuni_write_control(cells: &mut [u16], port: u32, word: u32) -> u32
+    ensures { λ r. ⌜ r ≡ answerNumber (controlOn (now (cells .entry)) port word .answer) ⌝ }
+    ensures { λ _. ⌜ now (cells .exit) ≡ cellsTold (controlOn (now (cells .entry)) port word) (now (cells .entry)) ⌝ }
 {
-    let lent = load(table);
-    if !lent.ok {
-        return 13;
-    }
-    let before = lent.table;
-    keep(
-        calls::write_control(before, port as u64, word as u64),
-        table,
-    )
+    number_of(calls::write_control(cells, port as u64, word as u64))
 }
 
 #[no_mangle]
-pub extern "C" fn ipaqsuni_read_status(table: &mut [u8], port: u32, status: &mut u32) -> u32
-    ensures { λ r. ⌜ r ≡ numberOf (statusCall (now (table .entry)) port) ⌝ }
-    ensures { λ _. ⌜ now (table .exit) ≡ leaves imageRead (statusCall (now (table .entry)) port) (now (table .entry)) ⌝ }
-    ensures { λ _. ⌜ now (status .exit) ≡ leaves wordRead (statusCall (now (table .entry)) port) (now (status .entry)) ⌝ }
+pub extern "C" fn ipaqsuni_read_status(cells: &mut [u16], port: u32, status: &mut u32) -> u32
+    ensures { λ r. ⌜ r ≡ statusNumber (statusOn (now (cells .entry)) port .answer) ⌝ }
+    ensures { λ _. ⌜ now (cells .exit) ≡ cellsRead (statusOn (now (cells .entry)) port) (now (cells .entry)) ⌝ }
+    ensures { λ _. ⌜ now (status .exit) ≡ wordLeft (statusOn (now (cells .entry)) port .answer) (now (status .entry)) ⌝ }
 {
-    let lent = load(table);
-    if !lent.ok {
-        return 13;
-    }
-    let before = lent.table;
-    let told = calls::read_status(before, port as u64);
-    let answer = told.answer;
-    match answer {
+    match calls::read_status(cells, port as u64) {
         Status::Word(word) => {
-            let read = told.table;
-            store(read, table);
             *status = word as u32;
             0
         }
@@ -79,44 +55,30 @@ pub extern "C" fn ipaqsuni_read_status(table: &mut [u8], port: u32, status: &mut
 }
 
 #[no_mangle]
-pub extern "C" fn ipaqsuni_request(table: &mut [u8], port: u32, value: u32) -> u32
-    ensures { λ r. ⌜ r ≡ numberOf (requestCall (now (table .entry)) port value) ⌝ }
-    ensures { λ _. ⌜ now (table .exit) ≡ leaves imageOf (requestCall (now (table .entry)) port value) (now (table .entry)) ⌝ }
+pub extern "C" fn ipaqsuni_request(cells: &mut [u16], port: u32, value: u32) -> u32
+    ensures { λ r. ⌜ r ≡ answerNumber (requestOn (now (cells .entry)) port value .answer) ⌝ }
+    ensures { λ _. ⌜ now (cells .exit) ≡ cellsTold (requestOn (now (cells .entry)) port value) (now (cells .entry)) ⌝ }
 {
-    let lent = load(table);
-    if !lent.ok {
-        return 13;
-    }
-    let before = lent.table;
-    keep(calls::request(before, port as u64, value as u64), table)
+    number_of(calls::request(cells, port as u64, value as u64))
 }
 
 #[no_mangle]
 pub extern "C" fn ipaqsuni_tick(
-    table: &mut [u8],
+    cells: &mut [u16],
     samples: &[u8],
     supply: u32,
     a: &mut u64,
     b: &mut u64,
     closed: &mut u32,
 ) -> u32
-    ensures { λ r. ⌜ r ≡ numberOf (tickCall (now (table .entry)) (now (samples .entry)) supply) ⌝ }
-    ensures { λ _. ⌜ now (table .exit) ≡ leaves imageTicked (tickCall (now (table .entry)) (now (samples .entry)) supply) (now (table .entry)) ⌝ }
-    ensures { λ _. ⌜ now (a .exit) ≡ leaves maskATicked (tickCall (now (table .entry)) (now (samples .entry)) supply) (now (a .entry)) ⌝ }
-    ensures { λ _. ⌜ now (b .exit) ≡ leaves maskBTicked (tickCall (now (table .entry)) (now (samples .entry)) supply) (now (b .entry)) ⌝ }
-    ensures { λ _. ⌜ now (closed .exit) ≡ leaves closedTicked (tickCall (now (table .entry)) (now (samples .entry)) supply) (now (closed .entry)) ⌝ }
+    ensures { λ r. ⌜ r ≡ tickNumber (tickOn (now (cells .entry)) (now (samples .entry)) supply .answer) ⌝ }
+    ensures { λ _. ⌜ now (cells .exit) ≡ cellsTicked (tickOn (now (cells .entry)) (now (samples .entry)) supply) (now (cells .entry)) ⌝ }
+    ensures { λ _. ⌜ now (a .exit) ≡ maskALeft (tickOn (now (cells .entry)) (now (samples .entry)) supply .answer) (now (a .entry)) ⌝ }
+    ensures { λ _. ⌜ now (b .exit) ≡ maskBLeft (tickOn (now (cells .entry)) (now (samples .entry)) supply .answer) (now (b .entry)) ⌝ }
+    ensures { λ _. ⌜ now (closed .exit) ≡ closedLeft (tickOn (now (cells .entry)) (now (samples .entry)) supply .answer) (now (closed .entry)) ⌝ }
 {
-    let lent = load(table);
-    if !lent.ok {
-        return 13;
-    }
-    let before = lent.table;
-    let told = tick::tick(before, samples, supply as u64);
-    let answer = told.answer;
-    match answer {
+    match tick::tick(cells, samples, supply as u64) {
         Closed::Ports(mask_a, mask_b, number) => {
-            let ticked = told.table;
-            store(ticked, table);
             *a = mask_a;
             *b = mask_b;
             *closed = number;
@@ -124,4 +86,24 @@ pub extern "C" fn ipaqsuni_tick(
         }
         Closed::Refused(number) => number as u32,
     }
+}
+
+// What no image holds is refused before a room of another length.
+#[no_mangle]
+pub extern "C" fn ipaqsuni_save(cells: &[u16], image: &mut [u8]) -> u32
+    ensures { λ r. ⌜ r ≡ saveNumber (now (cells .entry)) (now (image .entry)) ⌝ }
+    ensures { λ _. ⌜ now (image .exit) ≡ roomAfter (now (cells .entry)) (now (image .entry)) ⌝ }
+{
+    if store(cells, image) {
+        return 0;
+    }
+    if imageable(cells) { 1 } else { 13 }
+}
+
+#[no_mangle]
+pub extern "C" fn ipaqsuni_restore(cells: &mut [u16], image: &[u8]) -> u32
+    ensures { λ r. ⌜ r ≡ restoreNumber (now (image .entry)) (now (cells .entry)) ⌝ }
+    ensures { λ _. ⌜ now (cells .exit) ≡ cellsRestored (now (image .entry)) (now (cells .entry)) ⌝ }
+{
+    if load(image, cells) { 0 } else { 13 }
 }

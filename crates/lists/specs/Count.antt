@@ -4,7 +4,7 @@ use mathlib.Core.Path.{_≡_, refl, sym, _∙_, ap, ap₂}
 use mathlib.Core.Bool.{Bool, true, false, _||_, _&&_, false≢true}
 use mathlib.Core.Logic.{⊎-elim}
 use Prim.Native.Nat.{ℕ, zero, suc, _+_, _-_, _*_, _/_, _%_, _^_, _≤_, _<_}
-use native.Mathlib.Nat.{add-comm, mul-assoc, le-of-suc-le-suc, eq-or-lt-of-le, not-suc-le-zero, sub-add-cancel, add-mul-mod-self-right, div-eq-of-lt, lt-of-lt-of-le, zero-mul}
+use native.Mathlib.Nat.{add-comm, add-zero, add-suc, add-assoc, add-mul, mul-comm, mul-assoc, le-of-suc-le-suc, eq-or-lt-of-le, not-suc-le-zero, sub-add-cancel, add-mul-mod-self-right, div-eq-of-lt, lt-of-lt-of-le, zero-mul}
 use native.Mathlib.Omega.{arith}
 use lib.Dec.{eqb}
 use lib.Pow.{pow-add, pow-mono, high, field}
@@ -99,3 +99,15 @@ mask-next n f = total-next n (λ p. place p (f p))
 pub mask-less : (m n : ℕ) (f : ℕ → Bool) → m ≤ n → ((p : ℕ) → m ≤ p → f p ≡ false) → mask n f ≡ mask m f
 unfolding mask
 mask-less m n f h z = total-less m n (λ p. place p (f p)) h (λ p l. ap (place p) (z p l) ∙ zero-mul (2 ^ p))
+
+-- a mask of more places, by the places that come after: what they are there stands above all before
+pub mask-join : (m n : ℕ) (f : ℕ → Bool) → mask (m + n) f ≡ mask m f + mask n (λ p. f (m + p)) * 2 ^ m
+unfolding mask total
+mask-join m zero f = ap (λ (k : ℕ). mask k f) (add-zero m) ∙ sym (ap (λ (k : ℕ). mask m f + k) (zero-mul (2 ^ m)) ∙ add-zero (mask m f))
+mask-join m (suc n) f =
+    ap (λ (k : ℕ). mask k f) (add-suc m n)
+    ∙ ap (λ (k : ℕ). k + place (m + n) (f (m + n))) (mask-join m n f)
+    ∙ ap (λ (k : ℕ). mask m f + mask n (λ p. f (m + p)) * 2 ^ m + one (f (m + n)) * k) (pow-add 2 m n ∙ mul-comm (2 ^ m) (2 ^ n))
+    ∙ ap (λ (k : ℕ). mask m f + mask n (λ p. f (m + p)) * 2 ^ m + k) (sym (mul-assoc (one (f (m + n))) (2 ^ n) (2 ^ m)))
+    ∙ add-assoc (mask m f) (mask n (λ p. f (m + p)) * 2 ^ m) (one (f (m + n)) * 2 ^ n * 2 ^ m)
+    ∙ ap (λ (k : ℕ). mask m f + k) (sym (add-mul (mask n (λ p. f (m + p))) (one (f (m + n)) * 2 ^ n) (2 ^ m)))

@@ -1,1 +1,3 @@
 pub mod Quick
+pub mod Sweep
+pub mod Swept

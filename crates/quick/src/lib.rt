@@ -1,18 +1,16 @@
-// Most moves change counters and nothing else. Which do is told at a glance, without the whole step and its copies of the port.
+// Most moves change counters and nothing else. One pass over the lent cells makes those moves, and marks the ports that need the whole
+// step.
 use diagram::limits;
-use port::entry::during;
-use port::entry::up;
 use port::form::Counts;
-use port::form::Port;
-use port::form::State;
-use power::Power;
-use words::control::Enable;
-use words::control::enable_of;
-use words::enable::is_forced;
-use words::enable::is_off;
-use words::enable::is_on;
 ghost use mathlib.Core.Path.{_≡_};
-ghost use Rattle.quick.specs.Quick.{only, stressedBy, calm, quickDetecting, quickBackoff, quickErrorDelay, quickClassifying, quickPowerUp, quickPowerOn, quickTestMode, quickly};
+ghost use Prim.Native.Nat.{_%_, _<_, _≤_};
+ghost use mathlib.Core.Bool.{cond};
+ghost use lib.Dec.{ltb};
+ghost use lib.ListN.{length, getD};
+ghost use Rattle.lists.specs.Every.{someBelow};
+ghost use Rattle.cells.specs.Cells.{countsOf};
+ghost use Rattle.cells.specs.Writes.{withCountCells};
+ghost use Rattle.quick.specs.Sweep.{counted, running, signsBy, looked, lookedAt, isMarked, lookedCells, lookedLane, sweepable, sweptCells, sweptLane, sweptLeft};
 
 // What a reading shows before the signature and the class are worked out.
 pub struct Signs {
@@ -31,142 +29,175 @@ pub enum Glance {
     Whole,
 }
 
-fn only(stays: bool, counts: Counts) -> Glance
-    ensures { λ r. ⌜ r ≡ only stays counts ⌝ }
+// A port's counters after the pass, and a mark, all bits of it, where only the whole step tells.
+pub struct Look {
+    pub counts: Counts,
+    pub mark: u16,
+}
+
+// The last tick but one before a state that waits is left.
+const DETECTING_LAST: u16 = limits::DETECTING_ENDS - 1;
+
+const BACKOFF_LAST: u16 = limits::BACKOFF_ENDS - 1;
+
+const ERROR_DELAY_LAST: u16 = limits::ERROR_DELAY_ENDS - 1;
+
+const POWER_LAST: u16 = limits::POWER_UP_ENDS - 1;
+
+// A choice without a branch.
+fn pick(test: bool, a: u16, b: u16) -> u16
+    ensures { λ r. ⌜ r ≡ cond test a b ⌝ }
 {
-    if stays {
-        return Glance::Counted(counts);
+    if test { a } else { b }
+}
+
+fn counted(goes: bool, n: u16) -> u16
+    ensures { λ r. ⌜ r ≡ counted goes n ⌝ }
+{
+    if goes {
+        std::num::wrapping_add_u16(n, 1)
+    } else {
+        n
     }
-    Glance::Whole
 }
 
-fn detecting(enable: Enable, signs: Signs, counts: Counts) -> Glance
-    ensures { λ r. ⌜ r ≡ quickDetecting enable signs counts ⌝ }
+fn running(runs: bool, n: u16) -> u16
+    ensures { λ r. ⌜ r ≡ running runs n ⌝ }
 {
-    let ticks = up(counts.detection);
-    let ends = limits::DETECTING_ENDS <= ticks;
+    if runs {
+        std::num::wrapping_add_u16(n, 1)
+    } else {
+        0
+    }
+}
+
+// Every counter is a choice and no state is branched on, so that a compiler looks at eight ports at once. A state's code stands beside
+// the enable bits: one comparison tests both.
+fn look_at(state: u16, control: u16, demand: u16, flags: u16, counts: Counts) -> Look
+    ensures { λ r. ⌜ r ≡ looked state (control % 4) demand (signsBy flags) counts ⌝ }
+{
+    let enable = control % 4;
+    let key = std::num::wrapping_add_u16(enable * 16, state);
+    let limiting = running(flags / 8 % 2 == 1, counts.limiting);
+    let overload = running(flags / 16 % 2 == 1, counts.overload);
+    let gone = running(!(32 <= flags), counts.no_load);
+    let calm = (limiting < limits::FAULT) & (overload < limits::FAULT);
+    let rising = counts.power_on < POWER_LAST;
+    let detects = (key == 18) & !(flags % 2 == 1) & (counts.detection < DETECTING_LAST);
+    let backs = (state == 3) & !(enable == 0) & (counts.backoff < BACKOFF_LAST);
+    let classes = (key == 20) & !(flags / 2 % 2 == 1) & rising;
+    let rises = (key == 21) & !(flags / 4 % 2 == 1) & rising & calm;
+    let stays = (key == 22) & (gone < limits::LOAD_ABSENT) & calm;
+    let delays = (state == 7) & !(enable == 0) & (counts.error_delay < ERROR_DELAY_LAST);
+    let tests = (key == 40) & calm;
+    let stands = ((key == 0) & (demand == 0)) | (key == 41);
+    let shut = rises | stays | tests;
     let after = Counts {
-        detection: ticks,
-        ..counts
+        detection: counted(detects, counts.detection),
+        backoff: counted(backs, counts.backoff),
+        error_delay: counted(delays, counts.error_delay),
+        power_on: counted(classes | rises, counts.power_on),
+        limiting: pick(shut, limiting, counts.limiting),
+        overload: pick(shut, overload, counts.overload),
+        no_load: pick(stays, gone, counts.no_load),
     };
-    only(is_on(enable) & !signs.detected & !ends, after)
+    let mark = pick(
+        shut | detects | backs | delays | classes | stands,
+        0,
+        65_535,
+    );
+    Look {
+        counts: after,
+        mark,
+    }
 }
 
-fn backoff(enable: Enable, counts: Counts) -> Glance
-    ensures { λ r. ⌜ r ≡ quickBackoff enable counts ⌝ }
+fn counts_at(cells: &[u16], p: usize) -> Counts
+    requires { ⌜ (length (now cells) ≡ 728) × (p < 48) ⌝ }
+    ensures { λ r. ⌜ r ≡ countsOf (now (cells .entry)) p ⌝ }
 {
-    let ticks = up(counts.backoff);
-    let ends = limits::BACKOFF_ENDS <= ticks;
-    let after = Counts {
-        backoff: ticks,
-        ..counts
-    };
-    only(!is_off(enable) & !ends, after)
-}
-
-fn error_delay(enable: Enable, counts: Counts) -> Glance
-    ensures { λ r. ⌜ r ≡ quickErrorDelay enable counts ⌝ }
-{
-    let ticks = up(counts.error_delay);
-    let ends = limits::ERROR_DELAY_ENDS <= ticks;
-    let after = Counts {
-        error_delay: ticks,
-        ..counts
-    };
-    only(!is_off(enable) & !ends, after)
-}
-
-fn classifying(enable: Enable, signs: Signs, counts: Counts) -> Glance
-    ensures { λ r. ⌜ r ≡ quickClassifying enable signs counts ⌝ }
-{
-    let ticks = up(counts.power_on);
-    let ends = limits::CLASSIFYING_ENDS <= ticks;
-    let after = Counts {
-        power_on: ticks,
-        ..counts
-    };
-    only(is_on(enable) & !signs.classed & !ends, after)
-}
-
-fn stressed(signs: Signs, counts: Counts) -> Counts
-    ensures { λ r. ⌜ r ≡ stressedBy signs counts ⌝ }
-{
-    let limiting = during(signs.limiting, counts.limiting);
-    let overload = during(signs.overload, counts.overload);
     Counts {
-        limiting,
-        overload,
-        ..counts
+        detection: cells[248 + p],
+        backoff: cells[296 + p],
+        error_delay: cells[344 + p],
+        power_on: cells[392 + p],
+        limiting: cells[440 + p],
+        overload: cells[488 + p],
+        no_load: cells[536 + p],
     }
 }
 
-fn calm(counts: Counts) -> bool
-    ensures { λ r. ⌜ r ≡ calm counts ⌝ }
+fn put_counts(cells: &mut [u16], p: usize, counts: Counts)
+    requires { ⌜ (length (now cells) ≡ 728) × (p < 48) ⌝ }
+    ensures { λ _. ⌜ now (cells .exit) ≡ withCountCells p counts (now (cells .entry)) ⌝ }
 {
-    let limiting = limits::FAULT <= counts.limiting;
-    let overload = limits::FAULT <= counts.overload;
-    !limiting & !overload
+    cells[248 + p] = counts.detection;
+    cells[296 + p] = counts.backoff;
+    cells[344 + p] = counts.error_delay;
+    cells[392 + p] = counts.power_on;
+    cells[440 + p] = counts.limiting;
+    cells[488 + p] = counts.overload;
+    cells[536 + p] = counts.no_load;
 }
 
-fn power_up(enable: Enable, signs: Signs, counts: Counts) -> Glance
-    ensures { λ r. ⌜ r ≡ quickPowerUp enable signs counts ⌝ }
+// A port's counters are moved on where they stand; its mark is answered.
+fn sweep_port(cells: &mut [u16], p: usize, flags: u16) -> u16
+    requires { ⌜ (length (now cells) ≡ 728) × (p < 48) ⌝ }
+    ensures { λ r. ⌜ r ≡ lookedAt flags (now (cells .entry)) p .mark ⌝ }
+    ensures { λ _. ⌜ now (cells .exit) ≡ withCountCells p (lookedAt flags (now (cells .entry)) p .counts) (now (cells .entry)) ⌝ }
 {
-    let ticks = up(counts.power_on);
-    let ends = limits::POWER_UP_ENDS <= ticks;
-    let stress = stressed(signs, counts);
-    let after = Counts {
-        power_on: ticks,
-        ..stress
-    };
-    only(is_on(enable) & !signs.settled & !ends & calm(stress), after)
+    let before = counts_at(cells, p);
+    let seen = look_at(cells[8 + p], cells[56 + p], cells[104 + p], flags, before);
+    let after = seen.counts;
+    put_counts(cells, p, after);
+    seen.mark
 }
 
-fn power_on(enable: Enable, signs: Signs, counts: Counts) -> Glance
-    ensures { λ r. ⌜ r ≡ quickPowerOn enable signs counts ⌝ }
+fn greater(a: u16, b: u16) -> u16
+    ensures { λ r. ⌜ r ≡ cond (ltb a b) b a ⌝ }
 {
-    // With its load and no fault a port counts nothing, which its flags alone tell.
-    if signs.load & !signs.limiting & !signs.overload {
-        let none = Counts {
-            limiting: 0,
-            overload: 0,
-            no_load: 0,
-            ..counts
-        };
-        return only(is_on(enable), none);
+    if a < b { b } else { a }
+}
+
+fn is_sweepable(cells: &[u16], lane: &[u16]) -> bool
+    ensures { λ r. ⌜ r ≡ sweepable (now (cells .entry)) (now (lane .entry)) ⌝ }
+{
+    if cells.len() != 728 {
+        return false;
     }
-    let ticks = during(!signs.load, counts.no_load);
-    let ends = limits::LOAD_ABSENT <= ticks;
-    let stress = stressed(signs, counts);
-    let after = Counts {
-        no_load: ticks,
-        ..stress
-    };
-    only(is_on(enable) & !ends & calm(stress), after)
-}
-
-fn test_mode(enable: Enable, signs: Signs, counts: Counts) -> Glance
-    ensures { λ r. ⌜ r ≡ quickTestMode enable signs counts ⌝ }
-{
-    let stress = stressed(signs, counts);
-    only(is_forced(enable) & calm(stress), stress)
-}
-
-pub fn quick(port: Port, signs: Signs) -> Glance
-    ensures { λ r. ⌜ r ≡ quickly port signs ⌝ }
-{
-    let enable = enable_of(port.control);
-    let counts = port.counts;
-    let state = port.state;
-    match state {
-        State::Disabled => only(is_off(enable) & port.demand.same(Power::ZERO), counts),
-        State::Idle => Glance::Whole,
-        State::Detecting => detecting(enable, signs, counts),
-        State::Backoff => backoff(enable, counts),
-        State::Classifying => classifying(enable, signs, counts),
-        State::PowerUp => power_up(enable, signs, counts),
-        State::PowerOn => power_on(enable, signs, counts),
-        State::ErrorDelay => error_delay(enable, counts),
-        State::TestMode => test_mode(enable, signs, counts),
-        State::TestError => only(is_forced(enable), counts),
+    if lane.len() != 48 {
+        return false;
     }
+    cells[0] <= 48
+}
+
+// The ports below n, one after the other. Is some port marked?
+fn sweep_all(cells: &mut [u16], n: usize, lane: &mut [u16]) -> bool
+    requires { ⌜ (length (now cells) ≡ 728) × (n ≤ 48) × (length (now lane) ≡ 48) ⌝ }
+    ensures { λ r. ⌜ r ≡ someBelow n (λ p. isMarked (getD (now (lane .entry)) p 0) (now (cells .entry)) p) ⌝ }
+    ensures { λ _. ⌜ now (cells .exit) ≡ lookedCells n (now (lane .entry)) (now (cells .entry)) ⌝ }
+    ensures { λ _. ⌜ now (lane .exit) ≡ lookedLane n (now (lane .entry)) (now (cells .entry)) ⌝ }
+{
+    let mut left = 0u16;
+    let mut p = 0;
+    while p < n {
+        let mark = sweep_port(cells, p, lane[p]);
+        lane[p] = mark;
+        left = greater(left, mark);
+        p += 1;
+    }
+    left != 0
+}
+
+// The lane has a number for each place: a port's flags at first, and its mark then. What is no table of ports stays as it is.
+pub fn sweep(cells: &mut [u16], lane: &mut [u16]) -> bool
+    ensures { λ r. ⌜ r ≡ sweptLeft (now (cells .entry)) (now (lane .entry)) ⌝ }
+    ensures { λ _. ⌜ now (cells .exit) ≡ sweptCells (now (cells .entry)) (now (lane .entry)) ⌝ }
+    ensures { λ _. ⌜ now (lane .exit) ≡ sweptLane (now (cells .entry)) (now (lane .entry)) ⌝ }
+{
+    if !is_sweepable(cells, lane) {
+        return false;
+    }
+    let n = cells[0] as usize;
+    sweep_all(cells, n, lane)
 }

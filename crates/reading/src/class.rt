@@ -46,7 +46,7 @@ pub fn class_of_two(c1: u16, c2: u16) -> Class
 }
 
 // In tenths of a watt, by class: what a port of a class may draw, and what a port may be granted.
-const BUDGETS: [u16; 5] = [154, 40, 70, 154, 300];
+pub const BUDGETS: [u16; 5] = [154, 40, 70, 154, 300];
 
 // A number that is no class has no budget.
 pub fn budget(class: u8) -> Power

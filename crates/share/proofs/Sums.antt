@@ -19,7 +19,7 @@ use Rattle.power.specs.Power.{sumOf, plus, plus-exact, join, join-exact, fits}
 use Rattle.power.specs.declared.Power.{Power}
 use Rattle.power.specs.declared.Sum.{Sum}
 use Rattle.share.specs.Share.{claims, before, met, sumWhere, down, keeps, claimedSum}
-use Rattle.share.specs.Passes.{Small, added, within, slotOf, ofSlot, ofLower, joined}
+use Rattle.share.specs.Passes.{Small, within, slotOf, ofSlot, ofLower, joined}
 use Rattle.share.specs.Laws.{sum-none, met-self, met-before, met-cases, before-rank, before-place, before-trans, before-self}
 
 cond-none : (b : Bool) → _≡_ {A = ℕ} (cond b 0 0) 0
@@ -44,19 +44,6 @@ pub sum-small : (n : ℕ) (demand : ℕ → ℕ) (f : ℕ → Bool) → n ≤ 48
 unfolding sumWhere
 sum-small n demand f h s =
     omega (arith, total-bound n 65535 (λ p. cond (f p) (demand p) 0) (λ p l. at-most (f p) (demand p) 65535 (omega (arith, s p l))))
-
--- one place more in the sum of all claims
-pub claimed-more : (n : ℕ) (rank demand : ℕ → ℕ) (d : Power) → demand n ≡ d .0 → n < 48 → ((p : ℕ) → p < n + 1 → demand p < 2 ^ 16)
-    → added (sumOf (claimedSum n rank demand)) (rank n) d ≡ sumOf (claimedSum (n + 1) rank demand)
-unfolding added claimedSum claims
-claimed-more n rank demand d e l s =
-    ⊎-elim
-    (λ (t : ltb (rank n) 6 ≡ true).
-    simp (sum-next n demand (λ p. ltb (rank p) 6), t, e)
-    (plus-exact (sumWhere n demand (λ p. ltb (rank p) 6)) d
-    (omega (arith, sum-small n demand (λ p. ltb (rank p) 6) (omega arith) (λ p m. s p (omega arith)), s n (omega arith)))))
-    (λ (t : ltb (rank n) 6 ≡ false). simp (sum-next n demand (λ p. ltb (rank p) 6), t, add-zero))
-    (passed (ltb (rank n) 6))
 
 -- an array of sums with one demand more at place k
 module _ (m : ℕ) (g h : ℕ → ℕ) (k : ℕ) (d : Power) (l : k < m) (b : g k + d .0 < 2 ^ 32)

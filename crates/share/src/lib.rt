@@ -5,9 +5,9 @@ ghost use mathlib.Core.Path.{_≡_};
 ghost use Prim.Native.Nat.{_<_, _^_};
 ghost use Rattle.lists.specs.Places.{tabulate};
 ghost use Rattle.power.specs.Power.{sumOf};
-ghost use Rattle.share.specs.Share.{claims as claim, keeps, claimedSum};
+ghost use Rattle.share.specs.Share.{keeps};
 ghost use Rattle.share.specs.Given.{rankOf, demandOf};
-ghost use Rattle.share.specs.Passes.{Small, added, within, slotOf, ofSlot, joined};
+ghost use Rattle.share.specs.Passes.{Small, within, slotOf, ofSlot, joined};
 
 // Ranks 0 to 5: ports that were closed before those that ask, and within each critical, high, then low and unknown alike. After them:
 pub const NO_CLAIM: u8 = 6;
@@ -18,38 +18,18 @@ pub struct Claims {
     pub demands: [Power; 48],
 }
 
-// A claim's demand is added, and no other.
-fn with_claim(sum: Sum, rank: u8, demand: Power) -> Sum
-    ensures { λ r. ⌜ (r ≡ added sum rank demand) × (demand .0 < 2 ^ 16) ⌝ }
-{
-    if rank < NO_CLAIM {
-        return sum.plus(demand);
-    }
-    sum
-}
+// A demand's number fits its type: of this and of the loop below a compiler leaves nothing.
+fn told(demand: Power)
+    ensures { λ _. ⌜ demand .0 < 2 ^ 16 ⌝ }
+{}
 
-fn claimed(claims: Claims) -> Sum
-    ensures { λ r. ⌜ (r ≡ sumOf (claimedSum 48 (rankOf claims) (demandOf claims))) × Small (demandOf claims) ⌝ }
+fn all_told(claims: Claims)
+    ensures { λ _. ⌜ Small (demandOf claims) ⌝ }
 {
-    let mut sum = Sum::ZERO;
     for p in 0..48 {
-        let rank = claims.ranks[p];
         let demand = claims.demands[p];
-        sum = with_claim(sum, rank, demand);
+        told(demand);
     }
-    sum
-}
-
-// Where all claims fit, a place is kept exactly if it claims.
-fn claimants(claims: Claims) -> [bool; 48]
-    ensures { λ r. ⌜ r ≡ tabulate 48 (claim (rankOf claims)) ⌝ }
-{
-    let mut kept = [false; 48];
-    for p in 0..48 {
-        let rank = claims.ranks[p];
-        kept[p] = rank < NO_CLAIM;
-    }
-    kept
 }
 
 // The place of a rank's sum among seven: a sum for each rank, and the last for what is no claim, which nobody asks for.
@@ -119,12 +99,10 @@ fn in_turn(claims: Claims, supply: Power) -> [bool; 48]
     kept
 }
 
-// The places that keep their claim. Where all claims fit, nothing has to be ranked.
+// The places that keep their claim.
 pub fn kept(claims: Claims, supply: Power) -> [bool; 48]
     ensures { λ r. ⌜ r ≡ tabulate 48 (keeps 48 (rankOf claims) (demandOf claims) (supply .0)) ⌝ }
 {
-    if claimed(claims).fits(supply) {
-        return claimants(claims);
-    }
+    all_told(claims);
     in_turn(claims, supply)
 }

@@ -1,4 +1,5 @@
--- No call makes an ill-made table: the access switch's tick by the laws of every board, and the calls that change one port.
+-- No call makes an ill-made table: the access switch's tick by the laws of every board, and the calls that change one port. And what those
+-- laws ask of its move.
 -- Assumes nothing.
 use Prim.Native.Nat.{ℕ, zero, suc, _*_, _≤_, _<_}
 use mathlib.Core.Path.{_≡_, refl}
@@ -10,12 +11,14 @@ use lib.ListN.{getD, set, getD-replicate}
 use borrow.Author.Tests.{le-leb}
 use Rattle.lists.specs.Bits.{field, above}
 use Rattle.lists.specs.Table.{some}
-use Rattle.power.specs.Power.{atMost, highestSupply}
+use Rattle.power.specs.Power.{forced, atMost, highestSupply}
 use Rattle.power.specs.declared.Power.{Power}
 use Rattle.reading.specs.Class.{isDemand}
 use Rattle.reading.specs.Sample.{sampleAt}
 use Rattle.words.specs.Control.{refused}
+use Rattle.port.specs.States.{closed}
 use Rattle.port.specs.declared.form.Port.{Port}
+use Rattle.diagram.specs.Open.{open-stays}
 use Rattle.boards.specs.Sharing.{tableAfter}
 use Rattle.boards.specs.Well.{after-well}
 use Rattle.table.specs.declared.form.Table.{Table}
@@ -25,7 +28,7 @@ use Rattle.tick.specs.Tick.{movedAt}
 use Rattle.table.specs.Form.{noPort, portAt, withPort}
 use Rattle.table.specs.Well.{Well, well-of, WellTable, table-of, table-test}
 use Rattle.table.specs.WellMade.{illPort, wellPort, wellMade}
-use Rattle.statements.specs.Well.{digest-well, step-well}
+use Rattle.tick.specs.Wells.{digest-well, step-well}
 
 -- ---- the tick
 pub tick-well : (t : Table) (block : List ℕ) (supply : Power) → wellMade t ≡ true → atMost supply highestSupply ≡ true → wellMade (tableAfter t (movedAt t block) supply) ≡ true
@@ -34,6 +37,11 @@ tick-well t block supply e s =
     after-well t (movedAt t block) supply
     (λ p l. step-well (portAt t p) (digest (sampleAt block (14 * p))) (digest-well (sampleAt block (14 * p))) (table-of t e .ports p l))
     e s
+
+-- the access switch's move closes no port by itself
+pub opens : (t : Table) (block : List ℕ) (p : ℕ) → closed (portAt t p .state) ≡ false → closed (movedAt t block p .port .state) ≡ false
+unfolding movedAt
+opens t block p = open-stays forced (portAt t p) (digest (sampleAt block (14 * p)))
 
 -- ---- the calls that change one port
 -- after a store, what stands at a place is what was stored or what was there

@@ -14,5 +14,4 @@ pub mod Statement3
 pub mod TlvRows
 pub mod Unique
 pub mod Weaker
-pub mod Well
 pub mod WrongCores

@@ -24,7 +24,7 @@ use Rattle.table.specs.declared.form.Table.{Table}
 use Rattle.statements.specs.History.{Call, ticked, after, reached, accepted, Shown, nothing, signature, both, shown}
 use Rattle.statements.specs.Reached.{Stopped, Ran, tick-told, reached-well, reached-needs}
 use Rattle.boards.specs.Laws.{more-closes, closed-fits}
-use Rattle.tick.specs.Settling.{opens}
+use Rattle.statements.specs.Kept.{opens}
 use Rattle.statements.specs.Shows.{Needs}
 
 -- what is claimed of a history h from a cold start of n ports, a block, and two figures

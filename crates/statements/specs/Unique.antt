@@ -28,8 +28,8 @@ use Rattle.words.specs.declared.control.Priority.{Priority}
 use Rattle.words.specs.declared.status.Condition.{Condition}
 use Rattle.words.specs.declared.status.Latches.{Latches}
 use Rattle.settling.specs.Claim.{rankIn, settledAs}
-use Rattle.quick.specs.Quick.{quickly}
-use Rattle.port.specs.States.{closed}
+use Rattle.quick.specs.Sweep.{sweptLeft, sweptCells, sweptLane}
+use Rattle.port.specs.States.{closed, codeOf}
 use Rattle.port.specs.Entry.{up, during, enter}
 use Rattle.port.specs.Form.{quietly, latching, asking}
 use Rattle.diagram.specs.Step.{step}
@@ -37,22 +37,19 @@ use Rattle.port.specs.declared.form.Moved.{Moved}
 use Rattle.port.specs.declared.form.Port.{Port}
 use Rattle.port.specs.declared.form.Reading.{Reading}
 use Rattle.port.specs.declared.form.State.{State}
-use Rattle.quick.specs.declared.Glance.{Glance}
-use Rattle.quick.specs.declared.Signs.{Signs}
 use Rattle.share.specs.Given.{rankOf, demandOf}
 use Rattle.share.specs.Share.{keeps}
 use Rattle.share.specs.declared.Claims.{Claims}
-use Rattle.calls.specs.Calls.{coldStart, writeControl, readStatus, request}
-use Rattle.tick.specs.Tick.{tick}
-use Rattle.table.specs.Head.{wellHead}
-use Rattle.table.specs.WellMade.{wellPort, wellMade}
-use Rattle.table.specs.declared.form.StatusRead.{StatusRead}
-use Rattle.table.specs.declared.form.Table.{Table}
-use Rattle.table.specs.declared.form.Ticked.{Ticked}
-use Rattle.table.specs.declared.form.Told.{Told}
-use Rattle.image.specs.Image.{stores, roomAfter as imageAfter}
-use Rattle.image.specs.Load.{loaded}
-use Rattle.image.specs.declared.load.Loaded.{Loaded}
+use Rattle.table.specs.declared.form.Answer.{Answer}
+use Rattle.table.specs.declared.form.Closed.{Closed}
+use Rattle.table.specs.declared.form.Status.{Status}
+use Rattle.cells.specs.Codes.{stateOf, latchesOf, latchByte}
+use Rattle.cells.specs.Lent.{cellsTold, cellsRead, cellsTicked, cellsCold}
+use Rattle.well.specs.Judged.{headCells, wellCells}
+use Rattle.calls.specs.OnCells.{startOn, controlOn, statusOn, requestOn}
+use Rattle.tick.specs.OnCells.{tickOn}
+use Rattle.image.specs.Image.{imageable, saves, roomAfter as imageAfter}
+use Rattle.image.specs.Load.{restores, cellsRestored}
 use Rattle.tlv.specs.Fields.{badValues}
 use Rattle.tlv.specs.Read.{readOf}
 use Rattle.tlv.specs.Search.{searchOf}
@@ -69,9 +66,13 @@ use Rattle.tlv.specs.declared.write.Written.{Written}
 abbrev pub One : (A : Type 0) → (A → Type 0) → Type 0
 One A promise = (r s : A) → promise r → promise s → r ≡ s
 
--- the same of a result and what a lent buffer then holds
+-- the same of a result and what lent cells or a lent buffer then hold
 abbrev pub OneWith : (A B : Type 0) → (A → B → Type 0) → Type 0
 OneWith A B promise = (r s : A) (b c : B) → promise r b → promise s c → (r ≡ s) × (b ≡ c)
+
+-- and of two such
+abbrev pub OneWithTwo : (A B C : Type 0) → (A → B → C → Type 0) → Type 0
+OneWithTwo A B C promise = (r s : A) (b c : B) (d e : C) → promise r b d → promise s c e → (r ≡ s) × (b ≡ c) × (d ≡ e)
 
 -- a walker: the bytes that it was lent, and its position
 pub record Walker : Type 0 where
@@ -114,16 +115,19 @@ pub record Unique : Type 0 where
   pub diagram-step : (claim : Power) (p : Port) (reading : Reading) → One Moved (λ r. r ≡ step claim p reading)
   pub settling-rank-in : (state : State) (control : ℕ) (asks : Bool) → One ℕ (λ r. r ≡ rankIn state control asks)
   pub settling-settled-port : (rank : ℕ) (kept : Bool) (port : Port) → One Moved (λ r. r ≡ settledAs rank kept port)
-  pub quick-quick : (port : Port) (signs : Signs) → One Glance (λ r. r ≡ quickly port signs)
+  pub quick-sweep : (cells lane : List ℕ) → OneWithTwo Bool (List ℕ) (List ℕ) (λ r cells' lane'. (r ≡ sweptLeft cells lane) × (cells' ≡ sweptCells cells lane) × (lane' ≡ sweptLane cells lane))
   pub share-kept : (claims : Claims) (s : Power) → One (List Bool) (λ r. r ≡ tabulate 48 (keeps 48 (rankOf claims) (demandOf claims) (s .0)))
-  pub table-well-made-well-port : (port : Port) → One Bool (λ r. r ≡ wellPort port)
-  pub table-well-made-well-head : (count : ℕ) (supply : Power) → One Bool (λ r. r ≡ wellHead count supply)
-  pub table-well-made-well-made : (t : Table) → One Bool (λ r. r ≡ wellMade t)
-  pub calls-cold-start : (ports : ℕ) → One Told (λ r. r ≡ coldStart ports)
-  pub calls-write-control : (t : Table) (p word : ℕ) → One Told (λ r. r ≡ writeControl t p word)
-  pub calls-read-status : (t : Table) (p : ℕ) → One StatusRead (λ r. r ≡ readStatus t p)
-  pub calls-request : (t : Table) (p value : ℕ) → One Told (λ r. r ≡ request t p value)
-  pub tick-tick : (t : Table) (block : List ℕ) (figure : ℕ) → One Ticked (λ r. r ≡ tick t block figure)
+  pub cells-state-of : (code : ℕ) → One State (λ r. r ≡ stateOf code)
+  pub cells-code-of : (state : State) → One ℕ (λ r. r ≡ codeOf state)
+  pub cells-latches-of : (cell : ℕ) → One Latches (λ r. r ≡ latchesOf cell)
+  pub cells-latch-cell : (latches : Latches) → One ℕ (λ r. r ≡ latchByte latches)
+  pub well-well-head : (cells : List ℕ) → One Bool (λ r. r ≡ headCells cells)
+  pub well-well-made : (cells : List ℕ) → One Bool (λ r. r ≡ wellCells cells)
+  pub calls-cold-start : (cells : List ℕ) (ports : ℕ) → OneWith Answer (List ℕ) (λ r cells'. (r ≡ startOn cells ports .answer) × (cells' ≡ cellsCold (startOn cells ports) cells))
+  pub calls-write-control : (cells : List ℕ) (port word : ℕ) → OneWith Answer (List ℕ) (λ r cells'. (r ≡ controlOn cells port word .answer) × (cells' ≡ cellsTold (controlOn cells port word) cells))
+  pub calls-read-status : (cells : List ℕ) (port : ℕ) → OneWith Status (List ℕ) (λ r cells'. (r ≡ statusOn cells port .answer) × (cells' ≡ cellsRead (statusOn cells port) cells))
+  pub calls-request : (cells : List ℕ) (port value : ℕ) → OneWith Answer (List ℕ) (λ r cells'. (r ≡ requestOn cells port value .answer) × (cells' ≡ cellsTold (requestOn cells port value) cells))
+  pub tick-tick : (cells block : List ℕ) (figure : ℕ) → OneWith Closed (List ℕ) (λ r cells'. (r ≡ tickOn cells block figure .answer) × (cells' ≡ cellsTicked (tickOn cells block figure) cells))
   pub tlv-fields-bad-values : (f : Form) → One Bool (λ r. r ≡ badValues f)
   pub tlv-read-read : (bytes : List ℕ) → One Taken (λ r. r ≡ readOf bytes)
   pub tlv-search-search : (pdu : List ℕ) → One Searched (λ r. r ≡ searchOf pdu)
@@ -133,8 +137,9 @@ pub record Unique : Type 0 where
   pub tlv-walk-here : (w : Walker) → One Step (λ s. s ≡ stepOf (w .pdu) (w .at))
   pub tlv-walk-tlv-at : (pdu : List ℕ) (at : ℕ) → One Step (λ s. s ≡ stepOf pdu at)
   pub tlv-write-write : (f : Fields) (room : List ℕ) → OneWith Written (List ℕ) (λ r room'. (r ≡ writtenOf f room) × (room' ≡ roomAfter f room))
-  pub image-load-load : (bytes : List ℕ) → One Loaded (λ r. r ≡ loaded bytes)
-  pub image-store-store : (t : Table) (room : List ℕ) → OneWith Bool (List ℕ) (λ r room'. (r ≡ stores room) × (room' ≡ imageAfter t room))
+  pub image-load-load : (bytes cells : List ℕ) → OneWith Bool (List ℕ) (λ r cells'. (r ≡ restores bytes cells) × (cells' ≡ cellsRestored bytes cells))
+  pub image-store-imageable : (cells : List ℕ) → One Bool (λ r. r ≡ imageable cells)
+  pub image-store-store : (cells room : List ℕ) → OneWith Bool (List ℕ) (λ r room'. (r ≡ saves cells room) × (room' ≡ imageAfter cells room))
 
 one : (A : Type 0) (d : A) → One A (λ r. r ≡ d)
 one A d r s p q = p ∙ sym q
@@ -144,6 +149,9 @@ walker pdu at r s p q = subst (λ x. r ≡ record { pdu = x; at = s .at }) (p .0
 
 with-room : (A B : Type 0) (d : A) (e : B) → OneWith A B (λ r b. (r ≡ d) × (b ≡ e))
 with-room A B d e r s b c p q = (p .0 ∙ sym (q .0), p .1 ∙ sym (q .1))
+
+with-two : (A B C : Type 0) (x : A) (y : B) (z : C) → OneWithTwo A B C (λ r b d. (r ≡ x) × (b ≡ y) × (d ≡ z))
+with-two A B C x y z r s b c d e p q = (p .0 ∙ sym (q .0), p .1 ∙ sym (q .1), p .2 ∙ sym (q .2))
 
 pub unique : Unique
 unique =
@@ -183,16 +191,19 @@ unique =
       diagram-step = λ claim p reading. one Moved (step claim p reading);
       settling-rank-in = λ state control asks. one ℕ (rankIn state control asks);
       settling-settled-port = λ rank kept port. one Moved (settledAs rank kept port);
-      quick-quick = λ port signs. one Glance (quickly port signs);
+      quick-sweep = λ cells lane. with-two Bool (List ℕ) (List ℕ) (sweptLeft cells lane) (sweptCells cells lane) (sweptLane cells lane);
       share-kept = λ claims s. one (List Bool) (tabulate 48 (keeps 48 (rankOf claims) (demandOf claims) (s .0)));
-      table-well-made-well-port = λ port. one Bool (wellPort port);
-      table-well-made-well-head = λ count supply. one Bool (wellHead count supply);
-      table-well-made-well-made = λ t. one Bool (wellMade t);
-      calls-cold-start = λ ports. one Told (coldStart ports);
-      calls-write-control = λ t p word. one Told (writeControl t p word);
-      calls-read-status = λ t p. one StatusRead (readStatus t p);
-      calls-request = λ t p value. one Told (request t p value);
-      tick-tick = λ t block figure. one Ticked (tick t block figure);
+      cells-state-of = λ code. one State (stateOf code);
+      cells-code-of = λ state. one ℕ (codeOf state);
+      cells-latches-of = λ cell. one Latches (latchesOf cell);
+      cells-latch-cell = λ latches. one ℕ (latchByte latches);
+      well-well-head = λ cells. one Bool (headCells cells);
+      well-well-made = λ cells. one Bool (wellCells cells);
+      calls-cold-start = λ cells ports. with-room Answer (List ℕ) (startOn cells ports .answer) (cellsCold (startOn cells ports) cells);
+      calls-write-control = λ cells port word. with-room Answer (List ℕ) (controlOn cells port word .answer) (cellsTold (controlOn cells port word) cells);
+      calls-read-status = λ cells port. with-room Status (List ℕ) (statusOn cells port .answer) (cellsRead (statusOn cells port) cells);
+      calls-request = λ cells port value. with-room Answer (List ℕ) (requestOn cells port value .answer) (cellsTold (requestOn cells port value) cells);
+      tick-tick = λ cells block figure. with-room Closed (List ℕ) (tickOn cells block figure .answer) (cellsTicked (tickOn cells block figure) cells);
       tlv-fields-bad-values = λ f. one Bool (badValues f);
       tlv-read-read = λ bytes. one Taken (readOf bytes);
       tlv-search-search = λ pdu. one Searched (searchOf pdu);
@@ -200,7 +211,8 @@ unique =
       tlv-walk-new = λ pdu at. walker pdu at;
       tlv-walk-here = λ w. one Step (stepOf (w .pdu) (w .at));
       tlv-walk-tlv-at = λ pdu at. one Step (stepOf pdu at);
-      image-load-load = λ bytes. one Loaded (loaded bytes);
-      image-store-store = λ t room. with-room Bool (List ℕ) (stores room) (imageAfter t room);
+      image-load-load = λ bytes cells. with-room Bool (List ℕ) (restores bytes cells) (cellsRestored bytes cells);
+      image-store-imageable = λ cells. one Bool (imageable cells);
+      image-store-store = λ cells room. with-room Bool (List ℕ) (saves cells room) (imageAfter cells room);
       tlv-write-write = λ f room. with-room Written (List ℕ) (writtenOf f room) (roomAfter f room);
     }

@@ -1,7 +1,7 @@
 -- What follows from the definitions of the table and its calls, for whoever stands above them.
 -- Assumes nothing.
 use Prim.Native.Nat.{ℕ, _≤_, _<_}
-use mathlib.Core.Path.{_≡_, refl, sym}
+use mathlib.Core.Path.{_≡_, sym}
 use mathlib.Core.Bool.{true, false, not}
 use lib.Dec.{leb}
 use borrow.Author.Tests.{leb-true, not-true, not-false}
@@ -9,9 +9,8 @@ use Rattle.lists.specs.Every.{every-at}
 use Rattle.lists.specs.Tests.{and-left, and-right, not-leb}
 use Rattle.power.specs.Power.{atMost, over}
 use Rattle.power.specs.declared.Power.{Power}
-use Rattle.port.specs.declared.form.Port.{Port}
 use Rattle.table.specs.declared.form.Table.{Table}
-use Rattle.table.specs.Form.{portAt, withPort}
+use Rattle.table.specs.Form.{portAt}
 use Rattle.table.specs.Head.{wellHead, well-made-is, well-parts}
 use Rattle.table.specs.WellMade.{illMade, wellPort, wellMade}
 
@@ -37,8 +36,3 @@ well-at t e =
 pub over-is : (a b : Power) → over a b ≡ not (atMost a b)
 unfolding over atMost
 over-is a b = sym (not-leb (a .0) (b .0))
-
--- another port does not change the count
-pub count-with-port : (p : ℕ) (port : Port) (t : Table) → withPort p port t .count ≡ t .count
-unfolding withPort
-count-with-port p port t = refl

@@ -1,3 +1,2 @@
-// The table of a board's ports, and the test that every call makes of it first.
+// The table of a board's ports, and what is answered of it.
 pub mod form;
-pub mod well_made;

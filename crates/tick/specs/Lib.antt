@@ -1,5 +1,10 @@
 pub mod Digest
+pub mod Judging
+pub mod Moving
+pub mod OnCells
 pub mod Passes
 pub mod Settling
 pub mod Tally
 pub mod Tick
+pub mod Ticking
+pub mod Wells

@@ -1,112 +1,168 @@
--- What the closed ports of a table draw, and the masks that name them, as a pass over the places counts them.
+-- What a pass over the cells counts of the closed ports: a number for each side, eight of them weighed at once, and the masks that they are.
 -- Assumes nothing.
-use Prim.Native.Nat.{ℕ, _+_, _*_, _≤_, _<_, _^_}
-use mathlib.Core.Path.{_≡_, refl, sym, _∙_, ap}
+use Prim.Native.Nat.{ℕ, _+_, _*_, _/_, _%_, _≤_, _<_}
+use mathlib.Core.Path.{_≡_, refl, sym, _∙_, ap, ap₂}
 use mathlib.Core.Bool.{Bool, true, false, cond, _&&_}
+use mathlib.Core.List.{List}
+use mathlib.Core.Logic.{⊎-elim}
 use native.Mathlib.Nat.{add-zero}
 use native.Mathlib.Omega.{arith}
-use borrow.Author.Tests.{lt-ltb, le-ltb}
-use Rattle.lists.specs.Bits.{place}
-use Rattle.lists.specs.Count.{mask, mask-next, mask-less, mask-below}
-use Rattle.lists.specs.Total.{total, total-next, total-cong}
-use Rattle.power.specs.Power.{sumOf, plus, plus-exact}
+use lib.Count.{ones}
+use lib.Dec.{eqb, ltb}
+use lib.ListN.{getD}
+use borrow.Author.Tests.{lt-ltb, le-ltb, eqb-true}
+use Rattle.lists.specs.Bits.{one, one-small, place}
+use Rattle.lists.specs.Count.{mask, mask-below}
+use Rattle.lists.specs.Places.{side, tabulate, getD-tabulate}
+use Rattle.lists.specs.Total.{total, total-cong}
 use Rattle.words.specs.Control.{pairOf}
+use Rattle.words.specs.declared.control.Pair.{Pair}
+use Rattle.words.specs.declared.control.Pair.the-variants.{Neither, A, B, Both}
 use Rattle.port.specs.States.{closed}
 use Rattle.port.specs.declared.form.Port.{Port}
-use Rattle.table.specs.declared.form.Table.{Table}
-use Rattle.tick.specs.declared.tally.Tally.{Tally}
-use Rattle.table.specs.Drawn.{draws}
-use Rattle.table.specs.Form.{portAt}
-use Rattle.boards.specs.Masks.{namesA, namesB, maskA, maskB}
+use Rattle.port.specs.declared.form.State.{State}
 use Rattle.table.specs.Drawn.{closedAt}
+use Rattle.table.specs.Form.{portAt}
+use Rattle.table.specs.declared.form.Closed.the-variants.{Ports}
+use Rattle.table.specs.declared.form.Table.{Table}
+use Rattle.boards.specs.Masks.{namesA, namesB, maskA, maskB, answered}
+use Rattle.cells.specs.Cells.{portOf}
 
 -- a port that a mask names
-abbrev pub onA : Port → Bool
-onA p = closed (p .state) && namesA (pairOf (p .control))
+abbrev pub onA : State → ℕ → Bool
+onA s w = closed s && namesA (pairOf w)
 
-abbrev pub onB : Port → Bool
-onB p = closed (p .state) && namesB (pairOf (p .control))
+abbrev pub onB : State → ℕ → Bool
+onB s w = closed s && namesB (pairOf w)
 
--- the tally with the port at the next place
-unfoldable pub talliedBy : Tally → ℕ → Port → Tally
-talliedBy y at p = record { drawn = cond (closed (p .state)) (plus (y .drawn) (p .demand)) (y .drawn); a = y .a + place at (onA p); b = y .b + place at (onB p) }
+-- a closed port counts 1 on alternative A, and 256 on B
+unfoldable pub sideIn : State → ℕ → ℕ
+sideIn s w = one (onA s w) + 256 * one (onB s w)
 
--- the tally of the places below n
-unfoldable pub tallyBelow : ℕ → (ℕ → Port) → Tally
-tallyBelow n f = record { drawn = sumOf (total n (λ p. draws (f p))); a = mask n (λ p. onA (f p)); b = mask n (λ p. onB (f p)) }
+abbrev pub sideOf : Port → ℕ
+sideOf x = sideIn (x .state) (x .control)
 
-unfoldable pub tallyOf : Table → Tally
-tallyOf t = tallyBelow (t .count) (portAt t)
+-- a lane with the side of each of the first n ports
+unfoldable pub sideLane : ℕ → List ℕ → List ℕ → List ℕ
+sideLane n l lane = tabulate 48 (λ p. cond (ltb p n) (sideOf (portOf l p)) (getD lane p 0))
 
--- a pass that has come to place i
-pub record Tallying (f : ℕ → Port) (i : ℕ) (y : Tally) : Type 0 where
-  pub is : y ≡ tallyBelow i f
-  pub room : total i (λ p. draws (f p)) ≤ i * 65535
+-- a number of such a lane: 0, 1 or 256
+abbrev pub Side : ℕ → Type 0
+Side v = v ≡ one (eqb v 1) + 256 * one (eqb v 256)
 
-module _ (f : ℕ → Port) where
-  pub tallying-none : Tallying f 0 (record { drawn = sumOf 0; a = 0; b = 0 })
-  unfolding tallyBelow total mask
-  tallying-none = record { is = refl; room = omega arith }
+abbrev pub Sided : List ℕ → Type 0
+Sided lane = (p : ℕ) → p < 48 → Side (getD lane p 0)
 
-  -- what a mask has so far stands below the next place
-  pub below-a : (i : ℕ) (y : Tally) → Tallying f i y → y .a < 2 ^ i
-  unfolding tallyBelow
-  below-a i y T = rw (T .is) (mask-below i (λ p. onA (f p)))
+-- eight of them in one number
+unfoldable pub weighed : List ℕ → ℕ → ℕ
+weighed lane p =
+    getD lane p 0 + getD lane (p + 1) 0 * 2 + getD lane (p + 2) 0 * 4 + getD lane (p + 3) 0 * 8 + getD lane (p + 4) 0 * 16
+    + getD lane (p + 5) 0 * 32 + getD lane (p + 6) 0 * 64 + getD lane (p + 7) 0 * 128
 
-  pub below-b : (i : ℕ) (y : Tally) → Tallying f i y → y .b < 2 ^ i
-  unfolding tallyBelow
-  below-b i y T = rw (T .is) (mask-below i (λ p. onB (f p)))
+abbrev pub isA : List ℕ → ℕ → Bool
+isA lane p = eqb (getD lane p 0) 1
 
-  module _ (i : ℕ) (small : f i .demand .0 < 2 ^ 16) where
-    drawn-more : (b : Bool) (n : ℕ) → n ≤ i * 65535 → i < 48 → cond b (plus (sumOf n) (f i .demand)) (sumOf n) ≡ sumOf (n + cond b (f i .demand .0) 0)
-    drawn-more true n h l = plus-exact n (f i .demand) (omega arith)
-    drawn-more false n h l = ap sumOf (sym (add-zero n))
+abbrev pub isB : List ℕ → ℕ → Bool
+isB lane p = eqb (getD lane p 0) 256
 
-    room-more : (b : Bool) (n : ℕ) → n ≤ i * 65535 → n + cond b (f i .demand .0) 0 ≤ (i + 1) * 65535
-    room-more true n h = omega arith
-    room-more false n h = omega arith
+-- ---- what a side says
 
-    -- one port more. 48 powers never reach the end of a sum, so each addition is exact
-    pub tallying-more : (y : Tally) → Tallying f i y → i < 48 → Tallying f (i + 1) (talliedBy y i (f i))
-    unfolding talliedBy tallyBelow draws
-    tallying-more y T l =
-        let n = total i (λ p. draws (f p)) in
-        record {
-          is =
-              ap (λ (x : Tally). talliedBy x i (f i)) (T .is)
-              ∙ (λ k.
-              record {
-                drawn = (drawn-more (closed (f i .state)) n (T .room) l ∙ ap sumOf (sym (total-next i (λ p. draws (f p))))) k;
-                a = sym (mask-next i (λ p. onA (f p))) k;
-                b = sym (mask-next i (λ p. onB (f p))) k;
-              });
-          room = rw (total-next i (λ p. draws (f p))) (room-more (closed (f i .state)) n (T .room));
-        }
+sides-of : (c : Bool) (x : Pair) → let v = one (c && namesA x) + 256 * one (c && namesB x) in (Side v) × (eqb v 1 ≡ (c && namesA x)) × (eqb v 256 ≡ (c && namesB x))
+sides-of true Neither = (refl, refl, refl)
+sides-of true A = (refl, refl, refl)
+sides-of true B = (refl, refl, refl)
+sides-of true Both = (refl, refl, refl)
+sides-of false Neither = (refl, refl, refl)
+sides-of false A = (refl, refl, refl)
+sides-of false B = (refl, refl, refl)
+sides-of false Both = (refl, refl, refl)
 
--- the same ports, the same tally
-pub tally-cong : (n : ℕ) (f g : ℕ → Port) → ((p : ℕ) → p < n → f p ≡ g p) → tallyBelow n f ≡ tallyBelow n g
-unfolding tallyBelow mask
-tally-cong n f g h =
-    λ k.
-    record {
-      drawn = sumOf (total-cong n (λ p. draws (f p)) (λ p. draws (g p)) (λ p l. ap draws (h p l)) k);
-      a = total-cong n (λ p. place p (onA (f p))) (λ p. place p (onA (g p))) (λ p l. ap (λ (x : Port). place p (onA x)) (h p l)) k;
-      b = total-cong n (λ p. place p (onB (f p))) (λ p. place p (onB (g p))) (λ p l. ap (λ (x : Port). place p (onB x)) (h p l)) k;
-    }
+pub side-small : (v : ℕ) → Side v → v ≤ 256
+side-small v e = go (eqb v 1) refl
+  where
+    go : (a : Bool) → eqb v 1 ≡ a → v ≤ 256
+    go true q = omega (arith, eqb-true v 1 q)
+    go false q = let x : v ≡ one false + 256 * one (eqb v 256) = rw q at e in omega (arith, one-small (eqb v 256))
 
--- the masks of the ports below the count are the masks of all places
-module _ (t : Table) (few : t .count ≤ 48) (names : Port → Bool) where
-  masked : mask (t .count) (λ p. closed (portAt t p .state) && names (portAt t p)) ≡ mask 48 (λ p. closedAt t p && names (portAt t p))
-  unfolding mask closedAt
-  masked =
-      total-cong (t .count) (λ p. place p (closed (portAt t p .state) && names (portAt t p))) (λ p. place p (closedAt t p && names (portAt t p)))
-      (λ p l. simp (lt-ltb p (t .count) l))
-      ∙ sym (mask-less (t .count) 48 (λ p. closedAt t p && names (portAt t p)) few (λ p l. simp (le-ltb p (t .count) l)))
+-- the low byte of eight sides is theirs on A, and the high one theirs on B
+module _ (lane : List ℕ) (p : ℕ) (sided : Sided lane) (h : p ≤ 40) where
+  weighed-is : weighed lane p ≡ mask 8 (λ j. isA lane (p + j)) + 256 * mask 8 (λ j. isB lane (p + j))
+  unfolding weighed mask total
+  weighed-is =
+      let s0 = sided p (omega arith) in
+      let s1 = sided (p + 1) (omega arith) in
+      let s2 = sided (p + 2) (omega arith) in
+      let s3 = sided (p + 3) (omega arith) in
+      let s4 = sided (p + 4) (omega arith) in
+      let s5 = sided (p + 5) (omega arith) in
+      let s6 = sided (p + 6) (omega arith) in
+      let s7 = sided (p + 7) (omega arith) in
+      rw add-zero (omega arith)
 
-pub tally-a : (t : Table) → t .count ≤ 48 → tallyOf t .a ≡ maskA t
-unfolding tallyOf tallyBelow maskA
-tally-a t few = masked t few (λ p. namesA (pairOf (p .control)))
+  pub weighed-low : weighed lane p % 256 ≡ mask 8 (λ j. isA lane (p + j))
+  weighed-low = omega (arith, weighed-is, mask-below 8 (λ j. isA lane (p + j)))
 
-pub tally-b : (t : Table) → t .count ≤ 48 → tallyOf t .b ≡ maskB t
-unfolding tallyOf tallyBelow maskB
-tally-b t few = masked t few (λ p. namesB (pairOf (p .control)))
+  pub weighed-high : weighed lane p / 256 ≡ mask 8 (λ j. isB lane (p + j))
+  weighed-high = omega (arith, weighed-is, mask-below 8 (λ j. isA lane (p + j)))
+
+-- ---- the lane that a pass leaves
+
+module _ (n : ℕ) (l lane₀ : List ℕ) (clear : (p : ℕ) → n ≤ p → p < 48 → getD lane₀ p 0 ≡ 0) where
+  lane-within : (p : ℕ) → p < 48 → p < n → getD (sideLane n l lane₀) p 0 ≡ sideOf (portOf l p)
+  unfolding sideLane
+  lane-within p h x = getD-tabulate 48 (λ q. cond (ltb q n) (sideOf (portOf l q)) (getD lane₀ q 0)) 0 p h ∙ ap (λ (t : Bool). cond t (sideOf (portOf l p)) (getD lane₀ p 0)) (lt-ltb p n x)
+
+  lane-past : (p : ℕ) → p < 48 → n ≤ p → getD (sideLane n l lane₀) p 0 ≡ 0
+  unfolding sideLane
+  lane-past p h x =
+      getD-tabulate 48 (λ q. cond (ltb q n) (sideOf (portOf l q)) (getD lane₀ q 0)) 0 p h
+      ∙ ap (λ (t : Bool). cond t (sideOf (portOf l p)) (getD lane₀ p 0)) (le-ltb p n x)
+      ∙ clear p x h
+
+  -- it has sides alone
+  pub side-lane-sided : Sided (sideLane n l lane₀)
+  unfolding sideIn
+  side-lane-sided p h =
+      ⊎-elim
+      (λ (x : p < n). rw (lane-within p h x) (sides-of (closed (portOf l p .state)) (pairOf (portOf l p .control)) .0))
+      (λ (x : n ≤ p). rw (lane-past p h x) refl)
+      (side p n)
+
+  -- and its masks are those of the table with these ports
+  module _ (T : Table) (counted : T .count ≡ n) (same : (p : ℕ) → p < n → portOf l p ≡ portAt T p) where
+    pub side-lane-a : mask 48 (λ p. eqb (getD (sideLane n l lane₀) p 0) 1) ≡ maskA T
+    unfolding mask maskA closedAt sideIn
+    side-lane-a =
+        total-cong 48 (λ p. place p (isA (sideLane n l lane₀) p)) (λ p. place p (closedAt T p && namesA (pairOf (portAt T p .control))))
+        (λ p h.
+        ap (place p)
+        (⊎-elim
+        (λ (x : p < n).
+        ap (λ (v : ℕ). eqb v 1) (lane-within p h x) ∙ sides-of (closed (portOf l p .state)) (pairOf (portOf l p .control)) .1
+        ∙ ap (λ (q : Port). onA (q .state) (q .control)) (same p x)
+        ∙ sym (ap (λ (t : Bool). (t && closed (portAt T p .state)) && namesA (pairOf (portAt T p .control))) (lt-ltb p (T .count) (omega (arith, counted)))))
+        (λ (x : n ≤ p).
+        ap (λ (v : ℕ). eqb v 1) (lane-past p h x)
+        ∙ sym (ap (λ (t : Bool). (t && closed (portAt T p .state)) && namesA (pairOf (portAt T p .control))) (le-ltb p (T .count) (omega (arith, counted)))))
+        (side p n)))
+
+    pub side-lane-b : mask 48 (λ p. eqb (getD (sideLane n l lane₀) p 0) 256) ≡ maskB T
+    unfolding mask maskB closedAt sideIn
+    side-lane-b =
+        total-cong 48 (λ p. place p (isB (sideLane n l lane₀) p)) (λ p. place p (closedAt T p && namesB (pairOf (portAt T p .control))))
+        (λ p h.
+        ap (place p)
+        (⊎-elim
+        (λ (x : p < n).
+        ap (λ (v : ℕ). eqb v 256) (lane-within p h x) ∙ sides-of (closed (portOf l p .state)) (pairOf (portOf l p .control)) .2
+        ∙ ap (λ (q : Port). onB (q .state) (q .control)) (same p x)
+        ∙ sym (ap (λ (t : Bool). (t && closed (portAt T p .state)) && namesB (pairOf (portAt T p .control))) (lt-ltb p (T .count) (omega (arith, counted)))))
+        (λ (x : n ≤ p).
+        ap (λ (v : ℕ). eqb v 256) (lane-past p h x)
+        ∙ sym (ap (λ (t : Bool). (t && closed (portAt T p .state)) && namesB (pairOf (portAt T p .control))) (le-ltb p (T .count) (omega (arith, counted)))))
+        (side p n)))
+
+    -- so they are what a tick answers of it
+    pub side-lane-answer : Ports (mask 48 (isA (sideLane n l lane₀))) (mask 48 (isB (sideLane n l lane₀))) (ones (mask 48 (isA (sideLane n l lane₀))) + ones (mask 48 (isB (sideLane n l lane₀)))) ≡ answered T .answer
+    unfolding answered
+    side-lane-answer = ap₂ (λ (x y : ℕ). Ports x y (ones x + ones y)) side-lane-a side-lane-b

@@ -2,7 +2,6 @@
 use port::form::Classing;
 use port::form::Detection;
 use port::form::Reading;
-use quick::Signs;
 use reading::class::Class;
 use reading::class::budget;
 use reading::class::class_of_two;
@@ -14,7 +13,7 @@ ghost use mathlib.Core.Path.{_≡_};
 ghost use mathlib.Core.Bool.{cond};
 ghost use Rattle.reading.specs.Class.{classOfTwo};
 ghost use Rattle.reading.specs.Signature.{signatureOf};
-ghost use Rattle.tick.specs.Digest.{detectionOf, classingOf, digest, signsIn};
+ghost use Rattle.tick.specs.Digest.{detectionOf, classingOf, digest};
 
 fn detection_of(signature: Signature) -> Detection
     ensures { λ r. ⌜ r ≡ detectionOf signature ⌝ }
@@ -51,21 +50,6 @@ fn classing(done: bool, s: Sample) -> Classing
         return classing_of(class_of_two(s.c1, s.c2));
     }
     Classing::NotDone
-}
-
-// What the flags show of the reading before it is worked out.
-pub fn signs_of(word: u16) -> Signs
-    ensures { λ r. ⌜ r ≡ signsIn word ⌝ }
-{
-    let flags = flags_of(word);
-    Signs {
-        detected: flags.detection_done,
-        classed: flags.class_done,
-        settled: flags.settled,
-        limiting: flags.limiting,
-        overload: flags.overload,
-        load: flags.load,
-    }
 }
 
 pub fn digest_of(sample: Sample) -> Reading

@@ -1,57 +1,61 @@
-// The tick: refusals first, and then a part that cannot refuse.
+// The tick on a table that the caller lends: refusals first, and then a part that cannot refuse and changes the cells in place.
 mod block;
 mod digest;
-mod passes;
+mod ports;
+mod sharing;
+mod steps;
 mod tally;
 
-use crate::block::flags_at;
-use crate::block::flags_fine;
-use crate::block::sample;
-use crate::digest::digest_of;
-use crate::digest::signs_of;
-use crate::passes::shared_out;
-use crate::tally::Tally;
-use crate::tally::tallied;
-use crate::tally::tally_of;
-use diagram::step;
-use port::form::Moved;
-use port::form::Port;
+use crate::block::flags_into;
+use crate::sharing::share_out;
+use crate::steps::steps;
+use crate::tally::drawn;
+use crate::tally::masks;
+use crate::tally::sides;
 use power::Power;
-use quick::Glance;
-use quick::quick;
+use quick::sweep;
 use table::form::Closed;
-use table::form::Table;
-use table::form::Ticked;
-use table::well_made::well_head;
-use table::well_made::well_port;
+use well::well_head;
+use well::well_made;
 ghost use mathlib.Core.Path.{_≡_};
-ghost use Prim.Native.Nat.{_*_, _/_, _<_};
+ghost use mathlib.Core.Bool.{true, _&&_};
+ghost use Prim.Native.Nat.{_*_, _≤_};
+ghost use lib.Dec.{eqb};
 ghost use lib.ListN.{length};
-ghost use Rattle.power.specs.Power.{forced};
-ghost use Rattle.reading.specs.Sample.{sampleAt};
-ghost use Rattle.diagram.specs.Step.{step as stepOf};
-ghost use Rattle.table.specs.Form.{refuseTick};
-ghost use Rattle.tick.specs.Digest.{digest};
-ghost use Rattle.tick.specs.Passes.{refusalOf};
-ghost use Rattle.tick.specs.Tick.{tick};
+ghost use Rattle.cells.specs.Cells.{countCell};
+ghost use Rattle.cells.specs.Laws.{Holds};
+ghost use Rattle.cells.specs.Lent.{cellsTicked};
+ghost use Rattle.well.specs.Judged.{wellCells};
+ghost use Rattle.tick.specs.OnCells.{tickOn};
+ghost use Rattle.tick.specs.Passes.{Classes, flagsFine, refusalOf, flagLane, Ready, someAsk, movedOn, askedOn, sharedOn, movedCells, movedAnswer};
 
-fn refuse_tick(number: u8, table: Table) -> Ticked
-    ensures { λ r. ⌜ r ≡ refuseTick number table ⌝ }
+// The flags of every port into the lane, of a block that is as long as it should be.
+fn flags_if(block: &[u8], n: usize, lane: &mut [u16]) -> bool
+    requires { ⌜ (n ≤ 48) × (length (now lane) ≡ 48) ⌝ }
+    ensures { λ r. ⌜ r ≡ (eqb (length (now (block .entry))) (14 * n) && flagsFine n (now (block .entry))) ⌝ }
+    ensures { λ r. ⌜ (r ≡ true → now (lane .exit) ≡ flagLane n (now (block .entry)) (now (lane .entry))) ⌝ }
 {
-    Ticked {
-        table,
-        answer: Closed::Refused(number),
+    if block.len() != 14 * n {
+        return false;
     }
+    flags_into(block, n, lane)
 }
 
-// The number of the refusal, 0 if nothing is refused.
-fn refusal(well: bool, count: u16, block: &[u8], figure: u64) -> u8
-    ensures { λ r. ⌜ r ≡ refusalOf well count (now (block .entry)) figure ⌝ }
+// The number of the refusal, 0 if nothing is refused: then the lane has the flags of every port. They are read before the ports are
+// tested, though looked at after: what was just written would have to be waited for.
+fn refusal(cells: &[u16], block: &[u8], figure: u64, lane: &mut [u16]) -> u8
+    requires { ⌜ length (now lane) ≡ 48 ⌝ }
+    ensures { λ r. ⌜ r ≡ refusalOf (wellCells (now (cells .entry))) (countCell (now (cells .entry))) (now (block .entry)) figure ⌝ }
+    ensures { λ r. ⌜ (r ≡ 0 → now (lane .exit) ≡ flagLane (countCell (now (cells .entry))) (now (block .entry)) (now (lane .entry))) ⌝ }
 {
-    if !well {
+    if !well_head(cells) {
         return 13;
     }
-    let n = count as usize;
+    let n = cells[0] as usize;
+    let clean = flags_if(block, n, lane);
+    if !well_made(cells) {
+        return 13;
+    }
     if block.len() != 14 * n {
         return 1;
     }
@@ -59,69 +63,55 @@ fn refusal(well: bool, count: u16, block: &[u8], figure: u64) -> u8
     if figure > highest as u64 {
         return 4;
     }
-    if flags_fine(block, n) { 0 } else { 3 }
+    if clean { 0 } else { 3 }
 }
 
-fn stepped(port: Port, block: &[u8], at: usize) -> Moved
-    requires { ⌜ at < length (now block) / 14 ⌝ }
-    ensures { λ r. ⌜ r ≡ stepOf forced port (digest (sampleAt (now (block .entry)) (14 * at))) ⌝ }
+// Every port moves. The lane has the flags of every port at first, and a number other than 0 for each that asks then. Does one?
+fn move_all(cells: &mut [u16], n: usize, block: &[u8], lane: &mut [u16]) -> bool
+    requires { ⌜ Ready (now cells) (now block) (now lane) × (n ≡ countCell (now cells)) ⌝ }
+    ensures { λ r. ⌜ r ≡ someAsk (now (cells .entry)) (now (block .entry)) (now (lane .entry)) ⌝ }
+    ensures { λ _. ⌜ now (cells .exit) ≡ movedOn (now (cells .entry)) (now (block .entry)) (now (lane .entry)) ⌝ }
+    ensures { λ _. ⌜ now (lane .exit) ≡ askedOn (now (cells .entry)) (now (block .entry)) (now (lane .entry)) ⌝ }
 {
-    step(Power::FORCED, port, digest_of(sample(block, at)))
-}
-
-// One function, and the table changed where it stands: a table that is handed on is copied, which costs as much as three ports' moves.
-pub fn tick(mut table: Table, block: &[u8], figure: u64) -> Ticked
-    ensures { λ r. ⌜ r ≡ tick table (now (block .entry)) figure ⌝ }
-{
-    let count = table.count;
-    let n = count as usize;
-    let mut well = well_head(count, table.supply);
-    let mut k = 0;
-    while well & (k < n) {
-        let port = table.ports[k];
-        well = well_port(port);
-        k += 1;
+    if !sweep(cells, lane) {
+        return false;
     }
-    let refused = refusal(well, count, block, figure);
+    steps(cells, n, block, lane)
+}
+
+// Where no port asks and what is closed fits, nothing has to be shared.
+fn share_all(cells: &mut [u16], n: usize, lane: &[u16], asks: bool, supply: u16)
+    requires { ⌜ (length (now cells) ≡ 728) × (n ≤ 48) × (length (now lane) ≡ 48) × Holds n (now cells) × Classes n (now cells) ⌝ }
+    ensures { λ _. ⌜ now (cells .exit) ≡ sharedOn n (now (lane .entry)) asks supply (now (cells .entry)) ⌝ }
+{
+    let drawn = drawn(cells, n);
+    if asks | ((supply as u32) < drawn) {
+        share_out(cells, n, lane, drawn, supply);
+    }
+}
+
+// Every port moves, the supply is shared, and its figure is stored.
+fn moved(cells: &mut [u16], block: &[u8], supply: u16, lane: &mut [u16]) -> Closed
+    requires { ⌜ Ready (now cells) (now block) (now lane) ⌝ }
+    ensures { λ r. ⌜ r ≡ movedAnswer (now (cells .entry)) (now (block .entry)) supply ⌝ }
+    ensures { λ _. ⌜ now (cells .exit) ≡ movedCells (now (cells .entry)) (now (block .entry)) supply ⌝ }
+{
+    let n = cells[0] as usize;
+    let asks = move_all(cells, n, block, lane);
+    share_all(cells, n, lane, asks, supply);
+    cells[1] = supply;
+    sides(cells, n, lane);
+    masks(lane)
+}
+
+pub fn tick(cells: &mut [u16], block: &[u8], figure: u64) -> Closed
+    ensures { λ r. ⌜ r ≡ tickOn (now (cells .entry)) (now (block .entry)) figure .answer ⌝ }
+    ensures { λ _. ⌜ now (cells .exit) ≡ cellsTicked (tickOn (now (cells .entry)) (now (block .entry)) figure) (now (cells .entry)) ⌝ }
+{
+    let mut lane = [0u16; 48];
+    let refused = refusal(cells, block, figure, &mut lane);
     if refused != 0 {
-        return refuse_tick(refused, table);
+        return Closed::Refused(refused);
     }
-    let supply = Power(figure as u16);
-    let mut asked = [false; 48];
-    let mut quiet = true;
-    let mut tally = Tally::NONE;
-    let mut i = 0;
-    while i < n {
-        let before = table.ports[i];
-        match quick(before, signs_of(flags_at(block, i))) {
-            // Most moves change counters alone.
-            Glance::Counted(counts) => {
-                let port = Port { counts, ..before };
-                table.ports[i] = port;
-                tally = tallied(tally, i, port);
-            }
-            Glance::Whole => {
-                let whole = table.ports[i];
-                let m = stepped(whole, block, i);
-                let port = m.port;
-                table.ports[i] = port;
-                asked[i] = m.asks;
-                quiet = quiet & !m.asks;
-                tally = tallied(tally, i, port);
-            }
-        }
-        i += 1;
-    }
-    // Where no port asks and what is closed fits, nothing has to be shared.
-    if quiet & tally.drawn.fits(supply) {
-        table.supply = supply;
-    } else {
-        table = shared_out(table, asked, supply);
-        tally = tally_of(table);
-    }
-    let number = u64::count_ones(tally.a) + u64::count_ones(tally.b);
-    Ticked {
-        table,
-        answer: Closed::Ports(tally.a, tally.b, number),
-    }
+    moved(cells, block, figure as u16, &mut lane)
 }

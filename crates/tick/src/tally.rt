@@ -1,94 +1,124 @@
 // What the closed ports draw, and the masks that name them.
-use port::closed::is_closed;
-use port::form::Port;
-use power::Sum;
-use table::form::Table;
-use words::control::Pair;
-use words::control::pair_of;
+use table::form::Closed;
 ghost use mathlib.Core.Path.{_≡_};
-ghost use Prim.Native.Nat.{_+_, _≤_, _<_, _^_};
-ghost use Rattle.boards.specs.Masks.{namesA, namesB};
-ghost use Rattle.tick.specs.Tally.{talliedBy, tallyOf};
+ghost use mathlib.Core.Bool.{cond};
+ghost use Prim.Native.Nat.{_+_, _*_, _<_, _≤_, _^_};
+ghost use lib.Count.{ones};
+ghost use lib.Dec.{eqb};
+ghost use lib.ListN.{length, getD};
+ghost use Rattle.lists.specs.Count.{mask};
+ghost use Rattle.lists.specs.Total.{total};
+ghost use Rattle.port.specs.States.{closed};
+ghost use Rattle.table.specs.Drawn.{draws};
+ghost use Rattle.table.specs.declared.form.Closed.the-variants.{Ports};
+ghost use Rattle.cells.specs.Cells.{portOf};
+ghost use Rattle.cells.specs.Codes.{stateOf};
+ghost use Rattle.tick.specs.Tally.{sideIn, sideOf, sideLane, Sided, weighed};
 
-pub struct Tally {
-    // The demands of the closed ports.
-    pub drawn: Sum,
-    // Those on alternative A, and those on alternative B.
-    pub a: u64,
-    pub b: u64,
-}
-
-impl Tally {
-    pub const NONE: Tally = Tally {
-        drawn: Sum::ZERO,
-        a: 0,
-        b: 0,
-    };
-}
-
-fn names_a(pair: Pair) -> bool
-    ensures { λ r. ⌜ r ≡ namesA pair ⌝ }
+// A choice without a branch.
+pub fn pick(test: bool, a: u16, b: u16) -> u16
+    ensures { λ r. ⌜ (r ≡ cond test a b) × (r < 2 ^ 16) ⌝ }
 {
-    match pair {
-        Pair::Neither => false,
-        Pair::A => true,
-        Pair::B => false,
-        Pair::Both => false,
+    if test { a } else { b }
+}
+
+fn is_shut(state: u16) -> bool
+    ensures { λ r. ⌜ r ≡ closed (stateOf state) ⌝ }
+{
+    (state == 5) | (state == 6) | (state == 8)
+}
+
+fn draws_at(cells: &[u16], p: usize) -> u32
+    requires { ⌜ (length (now cells) ≡ 728) × (p < 48) ⌝ }
+    ensures { λ r. ⌜ (r ≡ draws (portOf (now (cells .entry)) p)) × (r < 2 ^ 16) ⌝ }
+{
+    pick(is_shut(cells[8 + p]), cells[104 + p], 0) as u32
+}
+
+// The demands of the closed ports.
+pub fn drawn(cells: &[u16], n: usize) -> u32
+    requires { ⌜ (length (now cells) ≡ 728) × (n ≤ 48) ⌝ }
+    ensures { λ r. ⌜ (r ≡ total n (λ p. draws (portOf (now (cells .entry)) p))) × (r ≤ n * 65535) ⌝ }
+{
+    let mut sum = 0u32;
+    let mut p = 0;
+    while p < n {
+        sum = sum + draws_at(cells, p);
+        p += 1;
+    }
+    sum
+}
+
+// A closed port counts 1 on alternative A, and 256 on B.
+fn side_of(state: u16, control: u16) -> u16
+    ensures { λ r. ⌜ r ≡ sideIn (stateOf state) control ⌝ }
+{
+    let pair = control / 4 % 4;
+    pick(
+        is_shut(state),
+        pick(pair == 1, 1, pick(pair == 2, 256, 0)),
+        0,
+    )
+}
+
+// The side of every port into the lane.
+pub fn sides(cells: &[u16], n: usize, lane: &mut [u16])
+    requires { ⌜ (length (now cells) ≡ 728) × (n ≤ 48) × (length (now lane) ≡ 48) ⌝ }
+    ensures { λ _. ⌜ now (lane .exit) ≡ sideLane n (now (cells .entry)) (now (lane .entry)) ⌝ }
+{
+    let mut p = 0;
+    while p < n {
+        lane[p] = side_of(cells[8 + p], cells[56 + p]);
+        p += 1;
     }
 }
 
-fn names_b(pair: Pair) -> bool
-    ensures { λ r. ⌜ r ≡ namesB pair ⌝ }
+fn at(lane: &[u16], p: usize) -> u32
+    requires { ⌜ (length (now lane) ≡ 48) × (p < 48) × Sided (now lane) ⌝ }
+    ensures { λ r. ⌜ (r ≡ getD (now (lane .entry)) p 0) × (r ≤ 256) ⌝ }
 {
-    match pair {
-        Pair::Neither => false,
-        Pair::A => false,
-        Pair::B => true,
-        Pair::Both => false,
-    }
+    lane[p] as u32
 }
 
-// The mask with a bit more, above all that it has.
-fn marked(mask: u64, at: usize) -> u64
-    requires { ⌜ (mask < 2 ^ at) × (at < 48) ⌝ }
-    ensures { λ r. ⌜ r ≡ mask + 2 ^ at ⌝ }
+// Eight ports in one number: those on A in its low byte, those on B in the high one. Twice that is added up, so that all eight are
+// multiplied alike and a compiler takes them at once.
+fn eight(lane: &[u16], p: usize) -> u16
+    requires { ⌜ (length (now lane) ≡ 48) × (p ≤ 40) × Sided (now lane) ⌝ }
+    ensures { λ r. ⌜ r ≡ weighed (now (lane .entry)) p ⌝ }
 {
-    mask + (1u64 << at)
+    let twice = at(lane, p) * 2
+        + at(lane, p + 1) * 4
+        + at(lane, p + 2) * 8
+        + at(lane, p + 3) * 16
+        + at(lane, p + 4) * 32
+        + at(lane, p + 5) * 64
+        + at(lane, p + 6) * 128
+        + at(lane, p + 7) * 256;
+    (twice / 2) as u16
 }
 
-// The port at the next place is taken in.
-pub fn tallied(tally: Tally, at: usize, port: Port) -> Tally
-    requires { ⌜ (tally .a < 2 ^ at) × (tally .b < 2 ^ at) × (at < 48) ⌝ }
-    ensures { λ r. ⌜ (r ≡ talliedBy tally at port) × (port .demand .0 < 2 ^ 16) ⌝ }
+// The mask with a byte more, above all that it has.
+fn placed(mask: u64, byte: u16, at: usize) -> u64
+    requires { ⌜ (mask < 2 ^ at) × (byte < 256) × (at ≤ 40) ⌝ }
+    ensures { λ r. ⌜ r ≡ mask + byte * 2 ^ at ⌝ }
 {
-    let state = port.state;
-    if !is_closed(state) {
-        return tally;
-    }
-    let drawn = tally.drawn.plus(port.demand);
-    let pair = pair_of(port.control);
-    if names_a(pair) {
-        let a = marked(tally.a, at);
-        return Tally { drawn, a, ..tally };
-    }
-    if names_b(pair) {
-        let b = marked(tally.b, at);
-        return Tally { drawn, b, ..tally };
-    }
-    Tally { drawn, ..tally }
+    mask + ((byte as u64) << at)
 }
 
-pub fn tally_of(table: Table) -> Tally
-    requires { ⌜ table .count ≤ 48 ⌝ }
-    ensures { λ r. ⌜ r ≡ tallyOf table ⌝ }
+pub fn masks(lane: &[u16]) -> Closed
+    requires { ⌜ (length (now lane) ≡ 48) × Sided (now lane) ⌝ }
+    ensures { λ r. ⌜ r ≡ Ports (mask 48 (λ p. eqb (getD (now (lane .entry)) p 0) 1)) (mask 48 (λ p. eqb (getD (now (lane .entry)) p 0) 256)) (ones (mask 48 (λ p. eqb (getD (now (lane .entry)) p 0) 1)) + ones (mask 48 (λ p. eqb (getD (now (lane .entry)) p 0) 256))) ⌝ }
 {
-    let n = table.count as usize;
-    let mut tally = Tally::NONE;
-    let mut i = 0;
-    while i < n {
-        let port = table.ports[i];
-        tally = tallied(tally, i, port);
-        i += 1;
+    let mut a = 0u64;
+    let mut b = 0u64;
+    let mut k = 0;
+    while k < 6 {
+        let p = 8 * k;
+        let both = eight(lane, p);
+        a = placed(a, both % 256, p);
+        b = placed(b, both / 256, p);
+        k += 1;
     }
-    tally
+    let number = u64::count_ones(a) + u64::count_ones(b);
+    Closed::Ports(a, b, number)
 }

@@ -1,74 +1,67 @@
-//! That the two plain ticks, the proved one, the C function and the reference compute the same; no time is taken.
+//! That the two plain ticks, the C functions and the reference compute the same; no time is taken.
 
-use crate::lent::{self, cells};
+use crate::calls::{self, on_reference};
+use crate::plain::cells::{load, with_table};
 use crate::plain::form::{Closed, HIGHEST_SUPPLY, PLACES};
-use crate::plain::image;
-use crate::plain::laps::{self, Laps};
 use crate::strange::Strange;
-use crate::{calls, door, frames, mixes, proved, through_door, ticked};
+use crate::{door, frames, lent, looks, mixes, plain, ticked};
+use reference::cells::all as cells_of;
 use reference::lines::{parsed, Console, Line};
 use reference::random::Random;
 use reference::scripts::{self, Kind};
 use std::path::Path;
 
 const MIX_TICKS: u64 = 20_000;
-const DOOR_TICKS: u64 = 5_000;
+const CALLS: u64 = 5_000;
 const RANDOM_TABLES: u64 = 20_000;
 const SCRIPT_LINES: u64 = 50_000;
 
-/// What a tick answers, as the checksum of the one answer, and the image that it leaves.
-type Outcome = (u64, Vec<u8>);
+/// What a tick answers, and the cells that it leaves.
+type Outcome = (Closed, Vec<u16>);
 
-fn by_plain(before: &[u8], block: &[u8], figure: u64) -> Result<Outcome, String> {
-    let table = image::load(before)
-        .ok_or("an image of the reference that the plain program does not take")?;
-    let (after, answer) = laps::one(&table, block, figure);
-    Ok((laps::closed(0, answer), image::store(&after)))
+/// None for cells that this shape has no place for.
+fn by_plain(before: &[u16], block: &[u8], figure: u64) -> Option<Outcome> {
+    let mut table = load(before)?;
+    let answer = plain::tick::tick(&mut table, block, figure);
+    Some((answer, with_table(before, &table)))
 }
 
-/// None for a figure that two bytes do not hold.
-fn by_proof(before: &[u8], block: &[u8], figure: u64) -> Option<Outcome> {
-    let figure = u16::try_from(figure).ok()?.to_be_bytes();
+fn by_lent(before: &[u16], block: &[u8], figure: u64) -> Outcome {
     let mut after = before.to_vec();
-    let laps = Laps { blocks: block, size: block.len(), figures: &figure, ticks: 1, restore: 0 };
-    let sum = proved::tick(&mut after, &laps);
-    Some((sum, after))
+    (lent::tick::tick(&mut after, block, figure), after)
 }
 
 /// None for a figure that C's number does not hold.
-fn by_door(before: &[u8], block: &[u8], figure: u64) -> Option<Outcome> {
+fn by_door(before: &[u16], block: &[u8], figure: u64) -> Option<Outcome> {
     let figure = u32::try_from(figure).ok()?;
     let mut after = before.to_vec();
-    let answer = door::tick(&mut after, block, figure);
-    Some((laps::closed(0, answer), after))
+    Some((door::tick(&mut after, block, figure), after))
 }
 
-fn by_reference(console: &mut Console, block: &[u8], figure: u64) -> Outcome {
-    let answer = match console.table.tick(figure, block) {
+fn by_reference(before: &[u16], block: &[u8], figure: u64) -> Outcome {
+    let mut after = before.to_vec();
+    let answer = match on_reference(&mut after, |table| table.tick(figure, block)) {
         Ok(t) => Closed::Ports(t.mask_a, t.mask_b, t.closed),
         Err(k) => Closed::Refused(k),
     };
-    (laps::closed(0, answer), reference::image::written(&console.table))
+    (answer, after)
 }
 
-/// One tick by all.
-fn compared(console: &mut Console, block: &[u8], figure: u64) -> Result<u64, String> {
-    let before = reference::image::written(&console.table);
-    let wanted = by_reference(console, block, figure);
-    let (cells, answer) = lent::laps::one(&cells::of_image(&before), block, figure);
-    let lent = (laps::closed(0, answer), cells);
+/// One tick by all, of whatever cells; those that it leaves stand in their place.
+pub fn compared(cells: &mut Vec<u16>, block: &[u8], figure: u64) -> Result<Closed, String> {
+    let wanted = by_reference(cells, block, figure);
     let differing = [
-        ("the plain tick", by_plain(&before, block, figure)? != wanted),
-        ("the plain tick of the lent shape", lent != (wanted.0, cells::of_image(&wanted.1))),
-        ("the proved tick", by_proof(&before, block, figure).is_some_and(|proof| proof != wanted)),
-        ("ipaqsuni_tick", by_door(&before, block, figure).is_some_and(|door| door != wanted)),
+        ("the plain tick", by_plain(cells, block, figure).is_some_and(|plain| plain != wanted)),
+        ("the plain tick of the lent shape", by_lent(cells, block, figure) != wanted),
+        ("ipaqsuni_tick", by_door(cells, block, figure).is_some_and(|door| door != wanted)),
     ];
-    match differing.iter().find(|(_, differs)| *differs) {
-        None => Ok(wanted.0),
-        Some((name, _)) => Err(format!(
-            "{name} differs from the reference: image {before:02x?} block {block:02x?} figure {figure}"
-        )),
+    if let Some((name, _)) = differing.iter().find(|(_, differs)| *differs) {
+        return Err(format!(
+            "{name} differs from the reference: cells {cells:04x?} block {block:02x?} figure {figure}"
+        ));
     }
+    *cells = wanted.1;
+    Ok(wanted.0)
 }
 
 fn kind(of: &str) -> Kind {
@@ -82,7 +75,7 @@ fn script(seed: u64, name: &str) -> Result<(), String> {
     let (mut lines, mut ticks) = (0u64, 0u64);
     for line in script.split(|&byte| byte == b'\n') {
         if let Some(Line::Tick(figure, block)) = parsed(line) {
-            compared(&mut console, &block, figure)?;
+            compared(&mut console.cells, &block, figure)?;
             ticks += 1;
         } else {
             console.answer(line);
@@ -183,6 +176,11 @@ fn figure(r: &mut Random) -> u64 {
     }
 }
 
+fn cells(image: &[u8]) -> Result<Vec<u16>, String> {
+    let table = reference::image::read(image).ok_or("a table from nowhere is no image")?;
+    Ok(cells_of(&table))
+}
+
 /// Tables from nowhere, ticked a few times each.
 fn random_tables() -> Result<(), String> {
     let mut r = Random::new(13);
@@ -195,19 +193,16 @@ fn random_tables() -> Result<(), String> {
             r.between(1, PLACES as u64) as u16
         };
         let ill = r.chance(10);
-        let image = table(&mut r, count, ill);
-        let mut console = Console::new();
-        console.table = reference::image::read(&image).ok_or("a table from nowhere is no image")?;
+        let mut cells = cells(&table(&mut r, count, ill))?;
         for _ in 0..4 {
             let reserved = r.chance(8);
             let mut block = block(&mut r, count.min(49), reserved);
             if r.chance(5) {
                 cut(&mut r, &mut block);
             }
-            let told = compared(&mut console, &block, figure(&mut r))?;
-            match told {
-                1 | 3 | 4 | 13 => refused[told as usize] += 1,
-                _ => accepted += 1,
+            match compared(&mut cells, &block, figure(&mut r))? {
+                Closed::Refused(k) => refused[usize::from(k)] += 1,
+                Closed::Ports(..) => accepted += 1,
             }
         }
     }
@@ -227,7 +222,7 @@ fn strange_cells() -> Result<(), String> {
         let ill = r.chance(10);
         let image = table(&mut r, count, ill);
         let block = block(&mut r, count, false);
-        strange.cells(&mut r, &image, &block)?;
+        strange.take(&mut r, &image, &cells(&image)?, &block)?;
     }
     strange.print()
 }
@@ -237,11 +232,11 @@ fn looks(root: &Path) -> Result<(), String> {
     for (name, records) in
         [("sound PDUs", &stored.sound), ("refused PDUs", &stored.refused), ("TLVs", &stored.tlvs)]
     {
-        let (bytes, size, number) = (&records.bytes, records.size, records.number);
-        if laps::find(bytes, size, number) != proved::find(bytes, size, number) {
+        let number = records.number;
+        if looks::plain_search(records, number) != looks::door_search(records, number) {
             return Err(format!("{name}: the two searches differ"));
         }
-        if laps::read(bytes, size, number) != proved::read(bytes, size, number) {
+        if looks::plain_read(records, number) != looks::door_read(records, number) {
             return Err(format!("{name}: the two readers differ"));
         }
         println!("  {name}: {number} searched and read, no difference");
@@ -250,20 +245,18 @@ fn looks(root: &Path) -> Result<(), String> {
 }
 
 pub fn all(root: &Path) -> Result<(), String> {
-    println!("check: the plain programs, the proved one, its C interface and the reference");
+    println!("check: the plain programs, the C functions and the reference");
     for short in [false, true] {
         let mix = mixes::mix(if short { "short of supply" } else { "every claim fits" }, 48, short);
         ticked(&mix, MIX_TICKS, 1)?;
-        through_door(&mix, DOOR_TICKS, 1)?;
-        println!("  {}: {MIX_TICKS} ticks, and {DOOR_TICKS} through C, no difference", mix.name);
-        let calls = calls::timed(&mix, DOOR_TICKS, 1)?;
+        println!("  {}: {MIX_TICKS} ticks, no difference", mix.name);
+        let calls = calls::timed(&mix, CALLS, 1)?;
         let names: Vec<&str> = calls.iter().map(|(name, _)| *name).collect();
-        let names = names.join(", ");
-        println!("  {}: {names} through C: {DOOR_TICKS} calls of each, no difference", mix.name);
+        println!("  {}: {}: {CALLS} calls of each, no difference", mix.name, names.join(", "));
     }
     random_tables()?;
     strange_cells()?;
-    for (seed, name) in (1..).zip(["walks", "limits", "illmade", "mixed"]) {
+    for (seed, name) in (1..).zip(["walks", "limits", "illmade", "cells", "mixed"]) {
         script(seed, name)?;
     }
     looks(root)?;

@@ -1,10 +1,12 @@
-//! The tables and sample blocks that both programs are timed on. The same seed gives the same mix.
+//! The tables and sample blocks that all programs are timed on. The same seed gives the same mix.
 
+use crate::lent::cells::CELLS;
+use crate::plain::cells::with_table;
 use crate::plain::form::{
     Closed, Port, State, Table, DENIED, HIGHEST_SUPPLY, PLACES, SAMPLE_BYTES, STATES,
 };
-use crate::plain::image;
-use crate::plain::laps::{self, Laps};
+use crate::plain::tick::tick;
+use crate::turns::Turns;
 use reference::random::Random;
 use reference::reading::BUDGETS;
 
@@ -30,16 +32,20 @@ const SHARES: [(State, usize); 10] = [
 
 pub struct Mix {
     pub name: &'static str,
-    pub image: Vec<u8>,
+    pub table: Table,
     pub blocks: Vec<u8>,
     pub size: usize,
     pub figures: Vec<u8>,
 }
 
 impl Mix {
-    pub fn laps(&self, ticks: u64) -> Laps<'_> {
+    pub fn turns(&self, ticks: u64) -> Turns<'_> {
         let (blocks, figures) = (&self.blocks, &self.figures);
-        Laps { blocks, size: self.size, figures, ticks, restore: RESTORE }
+        Turns { blocks, size: self.size, figures, ticks, restore: RESTORE }
+    }
+
+    pub fn cells(&self) -> Vec<u16> {
+        with_table(&[0; CELLS], &self.table)
     }
 }
 
@@ -135,7 +141,7 @@ pub fn mix(name: &'static str, count: usize, short: bool) -> Mix {
         blocks.extend_from_slice(&samples[..count * SAMPLE_BYTES]);
         figures.extend(figure(&mut r, block, short, claims).to_be_bytes());
     }
-    Mix { name, image: image::store(&table), blocks, size: count * SAMPLE_BYTES, figures }
+    Mix { name, table, blocks, size: count * SAMPLE_BYTES, figures }
 }
 
 fn closed(state: State) -> bool {
@@ -154,17 +160,17 @@ pub struct Made {
 
 pub fn made(mix: &Mix) -> Made {
     let mut made = Made::default();
-    let Some(start) = image::load(&mix.image) else { return made };
-    let mut table = start.clone();
+    let mut table = mix.table.clone();
     for k in 0..BLOCKS * 64 {
         if k as u64 % RESTORE == 0 {
-            table = start.clone();
+            table.clone_from(&mix.table);
         }
         table.ports.iter_mut().for_each(|port| port.latches = 0);
         let block = &mix.blocks[k % BLOCKS * mix.size..][..mix.size];
         let figure =
             u16::from_be_bytes([mix.figures[k % BLOCKS * 2], mix.figures[k % BLOCKS * 2 + 1]]);
-        let (after, answer) = laps::one(&table, block, u64::from(figure));
+        let mut after = table.clone();
+        let answer = tick(&mut after, block, u64::from(figure));
         assert!(matches!(answer, Closed::Ports(..)), "a mix is never refused");
         made.take(&table, &after);
         table = after;

@@ -6,7 +6,7 @@ use std::collections::{BTreeMap, BTreeSet};
 use std::fmt::Write;
 
 use crate::count::state_name;
-use crate::lines::{Answer, Line};
+use crate::lines::{bytes_of, Answer, Line};
 use crate::port::{control_reserved, Port, State, STATES};
 use crate::reading::{Sample, LOAD_PRESENT, RESERVED_FLAGS, SAMPLE_BYTES};
 use crate::table::Table;
@@ -41,7 +41,7 @@ impl Alone {
     pub fn line(&mut self, before: &Table, line: &Line, answer: &Answer) {
         let open = std::mem::take(&mut self.open);
         match (line, answer) {
-            (Line::Dump, _) => {
+            (Line::Dump, Answer::Image(_)) => {
                 for word in open {
                     *self.words.entry(word).or_default() += 1;
                 }
@@ -107,14 +107,18 @@ impl Alone {
     }
 
     fn leftovers(&mut self, line: &Line, answer: &Answer) {
-        let (Line::Table(bytes) | Line::Tick(_, bytes) | Line::Search(bytes) | Line::Read(bytes)) =
-            line
-        else {
-            return;
+        let bytes = match line {
+            Line::Table(bytes) | Line::Tick(_, bytes) | Line::Search(bytes) | Line::Read(bytes) => {
+                bytes
+            }
+            Line::Cells(cells) => &bytes_of(cells),
+            _ => return,
         };
         let past = |k: usize| self.left.get(bytes.len() + k).copied().unwrap_or(0);
         let name = match answer {
-            Answer::Ok if past(0) > 9 || past(6) > 63 => LEFT_IMAGE,
+            Answer::Ok if matches!(line, Line::Table(_)) && (past(0) > 9 || past(6) > 63) => {
+                LEFT_IMAGE
+            }
             Answer::Ticked(_) if past(12) > 0 || past(13) > 63 => LEFT_FLAGS,
             _ => "",
         };
@@ -124,7 +128,8 @@ impl Alone {
         self.left[..bytes.len()].copy_from_slice(bytes);
     }
 
-    pub fn tables(&self, text: &mut String) {
+    /// The tables; `sets` come beside those of this file.
+    pub fn tables(&self, text: &mut String, sets: &[(String, usize, usize)]) {
         self.flag_table(text);
         let _ = write!(text, "\n| Alone in POWER_ON, then a dump | Moves |\n|---|---|\n");
         for (bit, name) in FLAGS.iter().enumerate() {
@@ -132,7 +137,7 @@ impl Alone {
             let _ = writeln!(text, "| {name} | {count} |");
         }
         let _ = write!(text, "\n| One by one | Of | Met |\n|---|---|---|\n");
-        for (name, all, met) in self.sets() {
+        for (name, all, met) in self.sets().iter().chain(sets) {
             let _ = writeln!(text, "| {name} | {all} | {met} |");
         }
         let _ = write!(text, "\n| A count of 49, the supply a control word | Lines |\n|---|---|\n");

@@ -1,12 +1,14 @@
 //! `reference count`: how often a script meets each state, exit, latch, refusal
 //! and corner, as tables of Markdown. An exit or a corner counts as shown if a dump
-//! comes next.
+//! or a show comes next.
 
 use std::collections::BTreeMap;
 use std::fmt::Write;
 
 use crate::alone::Alone;
+use crate::cells::seen;
 use crate::corners::{sharing_corners, CORNERS, SHARING_CORNERS};
+use crate::lent::Lent;
 use crate::lines::{parsed, Answer, Console, Line};
 use crate::port::{Port, State, State::*, STATES};
 use crate::reading::Sample;
@@ -81,7 +83,7 @@ const LATCHES: [&str; 6] = [
 
 /// "Order of checks".
 const REFUSALS: [(&str, &[u8]); 9] = [
-    ("cold", &[2]),
+    ("cold", &[13, 2]),
     ("control", &[13, 2, 3, 5]),
     ("status", &[13, 2]),
     ("request", &[13, 2, 10, 5, 11, 12]),
@@ -109,11 +111,13 @@ pub fn state_name(state: State) -> &'static str {
     }
 }
 
-fn call_name(line: &Line) -> &'static str {
+pub fn call_name(line: &Line) -> &'static str {
     match line {
         Line::Cold(_) => "cold",
         Line::Table(_) => "table",
         Line::Dump => "dump",
+        Line::Cells(_) => "cells",
+        Line::Show => "show",
         Line::Control(..) => "control",
         Line::Request(..) => "request",
         Line::Status(_) => "status",
@@ -137,7 +141,7 @@ struct Counts {
     last_corners: Vec<&'static str>,
     shown_exits: BTreeMap<(State, State, &'static str), u64>,
     shown_corners: BTreeMap<&'static str, u64>,
-    /// The last line's call and answer, and those that a dump shows.
+    /// The last line's call and answer, and those that are shown.
     last_call: Option<(&'static str, String)>,
     shown_calls: BTreeMap<(&'static str, String), u64>,
     latches: [u64; 6],
@@ -146,6 +150,7 @@ struct Counts {
     orders: BTreeMap<(&'static str, u8, u8), u64>,
     corners: BTreeMap<&'static str, u64>,
     alone: Alone,
+    lent: Lent,
 }
 
 /// The tables for a script.
@@ -161,7 +166,8 @@ pub fn counted(script: &[u8]) -> String {
 impl Counts {
     fn line(&mut self, console: &mut Console, line: &[u8]) {
         self.lines += 1;
-        let before = console.table.clone();
+        let cells = console.cells.clone();
+        let before = seen(&cells);
         let answer = console.answer(line);
         let parsed = parsed(line);
         let call = parsed.as_ref().map_or("(no call)", call_name);
@@ -169,11 +175,12 @@ impl Counts {
             Answer::Refused(number) => *self.refusals.entry((call, *number)).or_default() += 1,
             other => *self.answers.entry((call, answer_kind(other))).or_default() += 1,
         }
-        self.shown(parsed == Some(Line::Dump));
+        self.shown(matches!(answer, Answer::Image(_) | Answer::Cells(_)));
         if let Some(line) = &parsed {
-            self.order(call, &reasons(&before, line));
+            self.order(call, &reasons(&cells, line));
             self.alone.line(&before, line, &answer);
         }
+        self.lent.line(&cells, parsed.as_ref(), &answer, &console.cells);
         self.last_call = Some((call, answer_kind(&answer)));
         if let (Some(Line::Tick(figure, block)), Answer::Ticked(ticked)) = (&parsed, &answer) {
             for (p, exit) in ticked.exits.iter().enumerate() {
@@ -190,17 +197,17 @@ impl Counts {
         self.last_corners.push(name);
     }
 
-    /// What the last tick met is shown by a dump, or past.
-    fn shown(&mut self, dump: bool) {
+    /// What the last tick met is shown by a dump or a show, or past.
+    fn shown(&mut self, shown: bool) {
         let (exits, corners) =
             (std::mem::take(&mut self.last_exits), std::mem::take(&mut self.last_corners));
-        for exit in exits.into_iter().filter(|_| dump) {
+        for exit in exits.into_iter().filter(|_| shown) {
             *self.shown_exits.entry(exit).or_default() += 1;
         }
-        for name in corners.into_iter().filter(|_| dump) {
+        for name in corners.into_iter().filter(|_| shown) {
             *self.shown_corners.entry(name).or_default() += 1;
         }
-        for call in self.last_call.take().into_iter().filter(|_| dump) {
+        for call in self.last_call.take().into_iter().filter(|_| shown) {
             *self.shown_calls.entry(call).or_default() += 1;
         }
     }
@@ -250,20 +257,21 @@ impl Counts {
             let count = self.orders.get(&order).unwrap_or(&0);
             let _ = writeln!(text, "| {} | {} | {} | {count} |", order.0, order.1, order.2);
         }
-        let _ = write!(text, "\n| Corner | Moves | A dump next |\n|---|---|---|\n");
+        let _ = write!(text, "\n| Corner | Moves | Shown next |\n|---|---|---|\n");
         let names = CORNERS.iter().map(|(name, _)| *name).chain(SHARING_CORNERS);
         for name in names {
             let count = self.corners.get(name).unwrap_or(&0);
             let shown = self.shown_corners.get(name).unwrap_or(&0);
             let _ = writeln!(text, "| {name} | {count} | {shown} |");
         }
-        self.alone.tables(&mut text);
+        self.alone.tables(&mut text, &self.lent.sets());
+        self.lent.table(&mut text);
         text
     }
 
     /// The calls on a table: what each answer left, as the next line shows it.
     fn shown_table(&self, text: &mut String) {
-        let _ = write!(text, "\n| Call | Answer | A dump next |\n|---|---|---|\n");
+        let _ = write!(text, "\n| Call | Answer | Shown next |\n|---|---|---|\n");
         let calls = REFUSALS.iter().filter(|(call, _)| TABLE_CALLS.contains(call));
         for (call, numbers) in calls {
             let refused = numbers.iter().map(|number| format!("refused {number}"));
@@ -293,7 +301,7 @@ impl Counts {
 
     fn exit_table(&self, text: &mut String) {
         let _ =
-            write!(text, "\n| From | To | Rule | Moves | A dump next |\n|---|---|---|---|---|\n");
+            write!(text, "\n| From | To | Rule | Moves | Shown next |\n|---|---|---|---|---|\n");
         for exit in &EXITS {
             let count = self.exits.get(exit).unwrap_or(&0);
             let shown = self.shown_exits.get(exit).unwrap_or(&0);
@@ -326,6 +334,7 @@ impl Counts {
 fn answer_kind(answer: &Answer) -> String {
     match answer {
         Answer::Image(_) => "image".to_string(),
+        Answer::Cells(_) => "cells".to_string(),
         Answer::Status(_) => "status".to_string(),
         Answer::Ticked(_) => "ticked".to_string(),
         Answer::Found(..) => "found".to_string(),

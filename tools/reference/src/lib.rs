@@ -2,9 +2,11 @@
 //! line language alone; a library, so that other tools can ask it too.
 
 mod alone;
+pub mod cells;
 mod corners;
 pub mod count;
 pub mod image;
+mod lent;
 pub mod lines;
 pub mod port;
 pub mod random;

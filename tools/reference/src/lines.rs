@@ -26,19 +26,22 @@
 //!     2,048. A greater one is a bad line. All other numbers go to the call as
 //!     they are, with document 01's order of checks (so `control 18446744073709551615 3`
 //!     on a well-made table is 2, and 13 on an ill-made one).
-//! 8.  The forms: `cold N`, `table HEX`, `dump`, `control P W`, `request P V`,
-//!     `status P`, `tick F HEX`, `search HEX`, `read HEX`, `write7 ROOM S P C`,
+//! 8.  The forms: `cold N`, `table HEX`, `dump`, `cells HEX`, `show`,
+//!     `control P W`, `request P V`, `status P`, `tick F HEX`, `search HEX`,
+//!     `read HEX`, `write7 ROOM S P C`,
 //!     `write12 ROOM S P C TYPE SOURCE PRIORITY REQUESTED ALLOCATED`,
-//!     `signature V1 V2 I1 I2`, `class C1 C2`.
+//!     `signature V1 V2 I1 I2`, `class C1 C2`. The bytes of `cells` are cells of
+//!     two, big-endian: an odd number of bytes, or over 1,024 cells, is a bad line.
 //! 9.  A line that keeps these rules is never `bad line`; one that breaks any of
 //!     them is answered `bad line` before any call is made. `table` with a HEX
 //!     that is no image is `bad image`. Both, and every refusal, leave the held
-//!     table as it was.
+//!     table as it was. `dump` is `bad image` if no image shows the held cells.
 //! 10. Answers: words separated by one space, numbers in decimal without leading
 //!     zeros, HEX in lower case, a newline after each.
 
 use std::fmt;
 
+use crate::cells;
 use crate::image;
 use crate::reading::{class, signature, Signature};
 use crate::table::{Table, Ticked};
@@ -53,6 +56,8 @@ pub enum Line {
     Cold(u64),
     Table(Vec<u8>),
     Dump,
+    Cells(Vec<u16>),
+    Show,
     Control(u64, u64),
     Request(u64, u64),
     Status(u64),
@@ -72,6 +77,7 @@ pub enum Answer {
     BadImage,
     BadLine,
     Image(Vec<u8>),
+    Cells(Vec<u16>),
     Status(u16),
     Ticked(Ticked),
     Found(usize, usize),
@@ -129,6 +135,19 @@ fn hex(word: &[u8]) -> Option<Vec<u8>> {
     word.chunks(2).map(|pair| Some(digit(pair[0])? << 4 | digit(pair[1])?)).collect()
 }
 
+/// Rule 8, the bytes of `cells`.
+fn words_of(bytes: &[u8]) -> Option<Vec<u16>> {
+    if bytes.len() % 2 != 0 || bytes.len() / 2 > cells::MOST_CELLS {
+        return None;
+    }
+    Some(bytes.chunks(2).map(|pair| u16::from(pair[0]) << 8 | u16::from(pair[1])).collect())
+}
+
+/// Cells as bytes, high byte first.
+pub fn bytes_of(cells: &[u16]) -> Vec<u8> {
+    cells.iter().flat_map(|cell| [(cell >> 8) as u8, *cell as u8]).collect()
+}
+
 /// Lower-case hex; `-` for no bytes.
 pub fn hex_text(bytes: &[u8]) -> String {
     if bytes.is_empty() {
@@ -153,6 +172,8 @@ pub fn parsed(line: &[u8]) -> Option<Line> {
         (b"cold", [n]) => Line::Cold(number(n)?),
         (b"table", [bytes]) => Line::Table(hex(bytes)?),
         (b"dump", []) => Line::Dump,
+        (b"cells", [bytes]) => Line::Cells(words_of(&hex(bytes)?)?),
+        (b"show", []) => Line::Show,
         (b"control", [p, w]) => Line::Control(number(p)?, number(w)?),
         (b"request", [p, v]) => Line::Request(number(p)?, number(v)?),
         (b"status", [p]) => Line::Status(number(p)?),
@@ -187,15 +208,15 @@ fn written(room: &[u8], octets: &[&[u8]], rest: &[&[u8]]) -> Option<Line> {
     Some(Line::Write(room, Fields { octets, extension }))
 }
 
-/// The console: it holds one table, all zeros before the first `cold` or
-/// `table`.
+/// The console: it holds the cells of one table, all zeros before the first
+/// `cold`, `table` or `cells`.
 pub struct Console {
-    pub table: Table,
+    pub cells: Vec<u16>,
 }
 
 impl Console {
     pub fn new() -> Console {
-        Console { table: Table::zero() }
+        Console { cells: vec![0; cells::CELLS] }
     }
 
     pub fn answer(&mut self, line: &[u8]) -> Answer {
@@ -205,30 +226,59 @@ impl Console {
         }
     }
 
+    /// A call on the table that is lent; only an accepted one gives it back.
+    fn call<T>(&mut self, call: impl FnOnce(&mut Table) -> Result<T, u8>) -> Result<T, u8> {
+        let mut table = cells::lent(&self.cells)?;
+        let answer = call(&mut table)?;
+        cells::give_back(&mut self.cells, &table);
+        Ok(answer)
+    }
+
+    pub fn tick(&mut self, figure: u64, block: &[u8]) -> Result<Ticked, u8> {
+        self.call(|table| table.tick(figure, block))
+    }
+
+    /// A cold start asks nothing of the cells but their number, and writes all.
+    fn cold(&mut self, count: u64) -> Result<(), u8> {
+        if self.cells.len() != cells::CELLS {
+            return Err(13);
+        }
+        self.cells = cells::all(&Table::cold(count)?);
+        Ok(())
+    }
+
     fn run(&mut self, line: &Line) -> Result<Answer, u8> {
         Ok(match line {
             Line::Cold(count) => {
-                self.table = Table::cold(*count)?;
+                self.cold(*count)?;
                 Answer::Ok
             }
             Line::Table(bytes) => match image::read(bytes) {
                 None => Answer::BadImage,
                 Some(table) => {
-                    self.table = table;
+                    self.cells = cells::all(&table);
                     Answer::Ok
                 }
             },
-            Line::Dump => Answer::Image(image::written(&self.table)),
+            Line::Dump => match cells::pictured(&self.cells) {
+                None => Answer::BadImage,
+                Some(table) => Answer::Image(image::written(&table)),
+            },
+            Line::Cells(cells) => {
+                self.cells.clone_from(cells);
+                Answer::Ok
+            }
+            Line::Show => Answer::Cells(self.cells.clone()),
             Line::Control(port, word) => {
-                self.table.control(*port, *word)?;
+                self.call(|table| table.control(*port, *word))?;
                 Answer::Ok
             }
             Line::Request(port, value) => {
-                self.table.request(*port, *value)?;
+                self.call(|table| table.request(*port, *value))?;
                 Answer::Ok
             }
-            Line::Status(port) => Answer::Status(self.table.status(*port)?),
-            Line::Tick(figure, block) => Answer::Ticked(self.table.tick(*figure, block)?),
+            Line::Status(port) => Answer::Status(self.call(|table| table.status(*port))?),
+            Line::Tick(figure, block) => Answer::Ticked(self.tick(*figure, block)?),
             other => outside_the_table(other)?,
         })
     }
@@ -262,6 +312,7 @@ impl fmt::Display for Answer {
             Answer::BadImage => write!(f, "bad image"),
             Answer::BadLine => write!(f, "bad line"),
             Answer::Image(bytes) => write!(f, "{}", hex_text(bytes)),
+            Answer::Cells(cells) => write!(f, "cells {}", hex_text(&bytes_of(cells))),
             Answer::Status(word) => write!(f, "status {word}"),
             Answer::Ticked(t) => write!(f, "ticked {} {} {}", t.mask_a, t.mask_b, t.closed),
             Answer::Found(offset, length) => write!(f, "found {offset} {length}"),

@@ -13,7 +13,7 @@ const USAGE: &str = "usage: reference answer < LINES
        reference script SEED LINES [KIND] > LINES
        reference count < LINES
 KIND: mixed (the default), walks, limits, illmade, frames, readings, bad,
-alone";
+alone, cells";
 
 fn main() -> ExitCode {
     let words: Vec<String> = std::env::args().skip(1).collect();

@@ -115,7 +115,7 @@ impl Port {
         counters: [0; 7],
     };
 
-    /// What the console holds before the first `cold` or `table`.
+    /// What the console holds before the first `cold`, `table` or `cells`.
     pub const ZERO: Port = Port { control: 0, ..Port::COLD };
 
     /// "1:0 enable".

@@ -1,6 +1,7 @@
 //! Which refusals of a call hold each by itself, whatever the order of checks:
 //! `reference count` shows with it that the scripts try every order.
 
+use crate::cells::{lent, seen, CELLS};
 use crate::lines::Line;
 use crate::port::{control_reserved, State};
 use crate::reading::{Sample, BUDGETS, RESERVED_FLAGS, SAMPLE_BYTES};
@@ -9,7 +10,8 @@ use crate::tlv::{Fields, LONGEST_PDU, MARK};
 
 /// Two refusals of one call that can hold at once, the one checked first in
 /// front.
-pub const ORDERS: [(&str, u8, u8); 31] = [
+pub const ORDERS: [(&str, u8, u8); 32] = [
+    ("cold", 13, 2),
     ("control", 13, 2),
     ("control", 13, 3),
     ("control", 13, 5),
@@ -43,10 +45,18 @@ pub const ORDERS: [(&str, u8, u8); 31] = [
     ("write12", 10, 1),
 ];
 
-pub fn reasons(table: &Table, line: &Line) -> Vec<u8> {
-    let ill = (13, table.ill_made());
+/// Of cells of another number than a table has, no call but a cold start says more
+/// than 13.
+pub fn reasons(cells: &[u16], line: &Line) -> Vec<u8> {
+    let stray = cells.len() != CELLS;
+    let table = &seen(cells);
+    let ill = (13, lent(cells).map_or(true, |table| table.ill_made()));
     let stranger = |port: u64| (2, port >= u64::from(table.count));
     let all: Vec<(u8, bool)> = match line {
+        Line::Cold(count) => vec![(13, stray), (2, *count == 0 || *count > 48)],
+        Line::Control(..) | Line::Status(_) | Line::Request(..) | Line::Tick(..) if stray => {
+            vec![ill]
+        }
         Line::Control(port, word) => {
             let port_state = of_control(table, *port, *word);
             vec![ill, stranger(*port), (3, control_reserved(*word)), (5, port_state)]

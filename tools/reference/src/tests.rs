@@ -105,7 +105,7 @@ fn walk_to_power() {
         let answer = if tick >= 4 { "ticked 1 0 1" } else { "ticked 0 0 0" };
         dialogue(&mut console, &[(&line, answer)]);
     }
-    assert_eq!(console.table.ports[0].state, State::PowerOn);
+    assert_eq!(console.cells[8], State::PowerOn as u16);
     dialogue(
         &mut console,
         &[
@@ -248,13 +248,120 @@ fn images() {
     );
 }
 
+/// The cells that `show` says, and so many of them.
+fn cells_said(cells: &[u16]) -> String {
+    let digits: String = cells.iter().map(|cell| format!("{cell:04x}")).collect();
+    format!("cells {}", if digits.is_empty() { "-" } else { &digits })
+}
+
+fn shows(console: &mut Console, cells: &[u16]) {
+    dialogue(console, &[("show", &cells_said(cells))]);
+}
+
+/// The layout, by hand: port 1 of 2 alone in POWER_ON, everything else noise or cold.
+fn two_ports() -> Vec<u16> {
+    let mut cells = vec![0xBEEF; 728];
+    cells[0] = 2;
+    cells[1] = 500;
+    for field in 0..12 {
+        cells[8 + 48 * field] = if field == 1 { 4 } else { 0 };
+    }
+    let port = [6, 0x19, 40, 4, 63, 1, 2, 3, 4, 5, 6, 7];
+    for (field, value) in port.into_iter().enumerate() {
+        cells[8 + 48 * field + 1] = value;
+    }
+    cells
+}
+
+/// Accepted calls change what they name; the noise stays.
+#[test]
+fn lent_cells() {
+    let mut console = Console::new();
+    shows(&mut console, &[0; 728]);
+    let mut cells = two_ports();
+    dialogue(&mut console, &[(&cells_said(&cells), "ok"), ("dump", "bad image")]);
+    dialogue(&mut console, &[("status 1", "status 8133")]);
+    cells[8 + 48 * 4 + 1] = 0;
+    shows(&mut console, &cells);
+    dialogue(&mut console, &[("control 1 25", "ok"), ("request 1 130", "ok")]);
+    cells[8 + 48 * 2 + 1] = 300;
+    shows(&mut console, &cells);
+    let block = sample(0) + &sample(0b011000);
+    dialogue(&mut console, &[(&format!("tick 300 {block}"), "ticked 0 2 1")]);
+    cells[1] = 300;
+    cells[8 + 48 * 9 + 1] = 6;
+    cells[8 + 48 * 10 + 1] = 7;
+    cells[8 + 48 * 11 + 1] = 8;
+    shows(&mut console, &cells);
+    dialogue(&mut console, &[("cold 49", "refused 2")]);
+    shows(&mut console, &cells);
+    dialogue(&mut console, &[("cold 48", "ok")]);
+    let mut cold = vec![0; 728];
+    cold[0] = 48;
+    cold[56..104].fill(4);
+    shows(&mut console, &cold);
+}
+
+/// One cell more or less, or one that breaks a port: 13, and nothing changes. Past
+/// the count it breaks nothing.
+#[test]
+fn broken_cells() {
+    let calls = [
+        "status 1".to_string(),
+        "control 1 25".to_string(),
+        "request 1 1".to_string(),
+        format!("tick 0 {}{}", sample(0), sample(0)),
+        "control 9 3".to_string(),
+    ];
+    let refused = |cells: &[u16]| {
+        let mut console = Console::new();
+        dialogue(&mut console, &[(&cells_said(cells), "ok")]);
+        for call in &calls {
+            dialogue(&mut console, &[(call, "refused 13")]);
+        }
+        shows(&mut console, cells);
+        console
+    };
+    for number in [0, 1, 727, 729, 1_024] {
+        let mut cells = two_ports();
+        cells.resize(number, 0);
+        let mut console = refused(&cells);
+        dialogue(&mut console, &[("cold 0", "refused 13"), ("cold 1", "refused 13")]);
+        shows(&mut console, &cells);
+        let zero = "00".repeat(1_014);
+        dialogue(&mut console, &[("dump", "bad image"), ("table 00", "bad image")]);
+        dialogue(&mut console, &[(&format!("table {zero}"), "ok"), ("dump", &zero)]);
+        shows(&mut console, &[0; 728]);
+    }
+    for (field, least) in [(0, 10), (3, 5), (4, 64), (5, 2_001), (11, 2_001)] {
+        for value in [least, 65_535] {
+            for place in [0, 1] {
+                let mut cells = two_ports();
+                cells[8 + 48 * field + place] = value;
+                refused(&cells);
+            }
+        }
+        let mut cells = two_ports();
+        cells[8 + 48 * field + 2] = least;
+        let mut console = Console::new();
+        dialogue(&mut console, &[(&cells_said(&cells), "ok"), ("status 0", "status 1")]);
+        shows(&mut console, &cells);
+    }
+    let most = "0".repeat(4 * 1_024);
+    assert_eq!(said(&format!("cells {most}")), "ok");
+    assert_eq!(said(&format!("cells {most}0000")), "bad line");
+    assert_eq!(said("cells 00"), "bad line");
+    assert_eq!(said("cells 000000"), "bad line");
+    assert_eq!(said("cells -"), "ok");
+}
+
 /// Same seed, same script; and a script of the size that is stored meets every
 /// state, exit, latch, refusal, order of checks and corner.
 #[test]
 fn a_script_meets_everything() {
-    let script = scripts::made(1, 24_000, scripts::Kind::Mixed);
-    assert_eq!(script, scripts::made(1, 24_000, scripts::Kind::Mixed));
-    assert_eq!(script.iter().filter(|&&byte| byte == b'\n').count(), 24_000);
+    let script = scripts::made(1, 25_500, scripts::Kind::Mixed);
+    assert_eq!(script, scripts::made(1, 25_500, scripts::Kind::Mixed));
+    assert_eq!(script.iter().filter(|&&byte| byte == b'\n').count(), 25_500);
     let counts = count::counted(&script);
     for row in counts.lines() {
         assert!(!row.ends_with("| 0 |") && !row.contains("NOT LISTED"), "{row}");
@@ -266,7 +373,7 @@ fn a_script_meets_everything() {
     }
     let one_by_one = counts.lines().skip_while(|row| !row.starts_with("| One by one"));
     let rows: Vec<&str> = one_by_one.skip(2).take_while(|row| !row.is_empty()).collect();
-    assert_eq!(rows.len(), 13);
+    assert_eq!(rows.len(), 19);
     for row in rows {
         let cells: Vec<&str> = row.split(" | ").collect();
         assert_eq!(cells[1], cells[2].trim_end_matches(" |"), "{row}");

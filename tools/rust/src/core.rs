@@ -2,13 +2,14 @@
 
 use std::ffi::c_uint;
 
-/// The numbers that the header names, made from it by build.rs.
+/// The numbers that the header names, and the first cells of its table's members, made from it by build.rs.
 #[allow(dead_code)]
 pub mod header {
     include!(concat!(env!("OUT_DIR"), "/numbers.rs"));
 }
 
-pub const TABLE: usize = header::TABLE as usize;
+pub const CELLS: usize = header::CELLS as usize;
+pub const IMAGE: usize = header::IMAGE as usize;
 pub const SAMPLE: usize = header::SAMPLE as usize;
 pub const LONGEST_PDU: usize = header::LONGEST_PDU as usize;
 pub const LONGEST_TLV: usize = header::LONGEST_TLV as usize;
@@ -30,24 +31,36 @@ pub struct Ticked {
 
 #[link(name = "ipaqsuni", kind = "static")]
 extern "C" {
-    fn ipaqsuni_cold_start(table: *mut u8, table_len: usize, ports: u32) -> c_uint;
-    fn ipaqsuni_write_control(table: *mut u8, table_len: usize, port: u32, word: u32) -> c_uint;
+    fn ipaqsuni_cold_start(cells: *mut u16, cells_len: usize, ports: u32) -> c_uint;
+    fn ipaqsuni_write_control(cells: *mut u16, cells_len: usize, port: u32, word: u32) -> c_uint;
     fn ipaqsuni_read_status(
-        table: *mut u8,
-        table_len: usize,
+        cells: *mut u16,
+        cells_len: usize,
         port: u32,
         status: *mut u32,
     ) -> c_uint;
-    fn ipaqsuni_request(table: *mut u8, table_len: usize, port: u32, value: u32) -> c_uint;
+    fn ipaqsuni_request(cells: *mut u16, cells_len: usize, port: u32, value: u32) -> c_uint;
     fn ipaqsuni_tick(
-        table: *mut u8,
-        table_len: usize,
+        cells: *mut u16,
+        cells_len: usize,
         samples: *const u8,
         samples_len: usize,
         supply: u32,
         mask_a: *mut u64,
         mask_b: *mut u64,
         closed: *mut u32,
+    ) -> c_uint;
+    fn ipaqsuni_save(
+        cells: *const u16,
+        cells_len: usize,
+        image: *mut u8,
+        image_len: usize,
+    ) -> c_uint;
+    fn ipaqsuni_restore(
+        cells: *mut u16,
+        cells_len: usize,
+        image: *const u8,
+        image_len: usize,
     ) -> c_uint;
     fn ipaqsuni_find_power_tlv(
         pdu: *const u8,
@@ -75,40 +88,40 @@ fn answer<T>(number: Refusal, accepted: T, untouched: bool) -> Result<T, Refusal
     }
 }
 
-pub fn cold_start(table: &mut [u8], ports: u32) -> Result<(), Refusal> {
-    // SAFETY: the pointer is to as many bytes as are said; the borrow is the only one.
-    let number = unsafe { ipaqsuni_cold_start(table.as_mut_ptr(), table.len(), ports) };
+pub fn cold_start(cells: &mut [u16], ports: u32) -> Result<(), Refusal> {
+    // SAFETY: the pointer is to as many cells as are said; the borrow is the only one.
+    let number = unsafe { ipaqsuni_cold_start(cells.as_mut_ptr(), cells.len(), ports) };
     answer(number, (), true)
 }
 
-pub fn write_control(table: &mut [u8], port: u32, word: u32) -> Result<(), Refusal> {
+pub fn write_control(cells: &mut [u16], port: u32, word: u32) -> Result<(), Refusal> {
     // SAFETY: as for cold_start.
-    let number = unsafe { ipaqsuni_write_control(table.as_mut_ptr(), table.len(), port, word) };
+    let number = unsafe { ipaqsuni_write_control(cells.as_mut_ptr(), cells.len(), port, word) };
     answer(number, (), true)
 }
 
-pub fn read_status(table: &mut [u8], port: u32) -> Result<u32, Refusal> {
+pub fn read_status(cells: &mut [u16], port: u32) -> Result<u32, Refusal> {
     let mut status = MARK as u32;
     // SAFETY: as for cold_start; the word is a local of its own.
     let number =
-        unsafe { ipaqsuni_read_status(table.as_mut_ptr(), table.len(), port, &mut status) };
+        unsafe { ipaqsuni_read_status(cells.as_mut_ptr(), cells.len(), port, &mut status) };
     answer(number, status, status == MARK as u32)
 }
 
-pub fn request(table: &mut [u8], port: u32, value: u32) -> Result<(), Refusal> {
+pub fn request(cells: &mut [u16], port: u32, value: u32) -> Result<(), Refusal> {
     // SAFETY: as for cold_start.
-    let number = unsafe { ipaqsuni_request(table.as_mut_ptr(), table.len(), port, value) };
+    let number = unsafe { ipaqsuni_request(cells.as_mut_ptr(), cells.len(), port, value) };
     answer(number, (), true)
 }
 
-pub fn tick(table: &mut [u8], samples: &[u8], supply: u32) -> Result<Ticked, Refusal> {
+pub fn tick(cells: &mut [u16], samples: &[u8], supply: u32) -> Result<Ticked, Refusal> {
     let blank = Ticked { mask_a: MARK, mask_b: MARK, closed: MARK as u32 };
     let mut t = blank;
     // SAFETY: as for cold_start; the three places are fields of a local of its own.
     let number = unsafe {
         ipaqsuni_tick(
-            table.as_mut_ptr(),
-            table.len(),
+            cells.as_mut_ptr(),
+            cells.len(),
             samples.as_ptr(),
             samples.len(),
             supply,
@@ -118,6 +131,20 @@ pub fn tick(table: &mut [u8], samples: &[u8], supply: u32) -> Result<Ticked, Ref
         )
     };
     answer(number, t, t == blank)
+}
+
+pub fn save(cells: &[u16], image: &mut [u8]) -> Result<(), Refusal> {
+    // SAFETY: each pointer is to as many cells or bytes as are said; what is written is borrowed alone.
+    let number =
+        unsafe { ipaqsuni_save(cells.as_ptr(), cells.len(), image.as_mut_ptr(), image.len()) };
+    answer(number, (), true)
+}
+
+pub fn restore(cells: &mut [u16], image: &[u8]) -> Result<(), Refusal> {
+    // SAFETY: as for save.
+    let number =
+        unsafe { ipaqsuni_restore(cells.as_mut_ptr(), cells.len(), image.as_ptr(), image.len()) };
+    answer(number, (), true)
 }
 
 /// Where the power TLV starts, and how long it is.

@@ -4,14 +4,16 @@
 //! A number past 32 bits goes into a call as 4294967295: as a port, a port count, a control word, a request, a supply figure, a
 //! code or a power value it is then refused as the number itself is.
 //!
-//! A refusal that wrote, and a written TLV of another length than its form's, end the program with status 1.
+//! The held table is so many cells at the front of a room for 1,024. A refusal that wrote, a call that wrote past the cells that it
+//! was lent, and a written TLV of another length than its form's, end the program with status 1.
 
-use crate::core::{self, Fields, Refusal, FORM, TABLE};
+use crate::core::{self, Fields, Refusal, CELLS, FORM, IMAGE};
 use std::io::{self, BufRead, Write};
 use std::process::ExitCode;
 
 const LONGEST_LINE: usize = 8_192;
 const LONGEST_ROOM: u64 = 2_048;
+const MOST_CELLS: usize = 1_024;
 
 /// Rule 5, with any number of digits.
 fn number(word: &[u8]) -> Option<u64> {
@@ -50,12 +52,7 @@ fn text(bytes: &[u8]) -> String {
     bytes.iter().map(|byte| format!("{byte:02x}")).collect()
 }
 
-/// An image's form: each state up to 9, no latch bit over 5, a supply of 16 bits.
-fn is_image(bytes: &[u8]) -> bool {
-    bytes.len() == TABLE
-        && bytes[2..4] == [0, 0]
-        && bytes[6..].chunks(21).all(|port| port[0] <= 9 && port[6] <= 63)
-}
+const BAD_IMAGE: &str = "bad image";
 
 fn ok(_: ()) -> String {
     "ok".to_string()
@@ -99,37 +96,85 @@ fn written(form: u32, words: &[&[u8]]) -> Option<String> {
     said(answer.map(|_| format!("wrote {}", text(&room))))
 }
 
+/// The held table: its cells are the first of the room's.
+#[derive(Clone, PartialEq)]
+struct Held {
+    room: [u16; MOST_CELLS],
+    number: usize,
+}
+
+impl Held {
+    fn cells(&mut self) -> &mut [u16] {
+        &mut self.room[..self.number]
+    }
+
+    /// "the held table becomes its 728 cells", however many were held
+    fn restore(&mut self, image: &[u8]) -> String {
+        match core::restore(&mut self.room[..CELLS], image) {
+            Ok(()) => {
+                self.number = CELLS;
+                ok(())
+            }
+            Err(_) => BAD_IMAGE.to_string(),
+        }
+    }
+
+    fn dump(&mut self) -> String {
+        let blank = [0x5a; IMAGE];
+        let mut image = blank;
+        match core::save(self.cells(), &mut image) {
+            Ok(()) => text(&image),
+            Err(_) if image == blank => BAD_IMAGE.to_string(),
+            Err(_) => wrong("a refusal wrote the image"),
+        }
+    }
+
+    /// Two bytes a cell.
+    fn hold(&mut self, bytes: &[u8]) -> Option<String> {
+        if bytes.len() % 2 != 0 || bytes.len() / 2 > MOST_CELLS {
+            return None;
+        }
+        self.number = bytes.len() / 2;
+        for (cell, pair) in self.room.iter_mut().zip(bytes.chunks(2)) {
+            *cell = u16::from_be_bytes([pair[0], pair[1]]);
+        }
+        Some(ok(()))
+    }
+
+    fn show(&mut self) -> String {
+        let bytes: Vec<u8> = self.cells().iter().flat_map(|cell| cell.to_be_bytes()).collect();
+        format!("cells {}", text(&bytes))
+    }
+}
+
 /// None: the line breaks a rule.
-fn call(table: &mut Vec<u8>, line: &[u8]) -> Option<String> {
+fn call(held: &mut Held, line: &[u8]) -> Option<String> {
     if line.len() > LONGEST_LINE {
         return None;
     }
     let words: Vec<&[u8]> = line.split(|&byte| byte == b' ').collect();
     match (words[0], &words[1..]) {
-        (b"cold", [n]) => said(core::cold_start(table, narrow(number(n)?)).map(ok)),
+        (b"cold", [n]) => said(core::cold_start(held.cells(), narrow(number(n)?)).map(ok)),
         (b"control", [p, w]) => {
-            said(core::write_control(table, narrow(number(p)?), narrow(number(w)?)).map(ok))
+            let (port, word) = (narrow(number(p)?), narrow(number(w)?));
+            said(core::write_control(held.cells(), port, word).map(ok))
         }
         (b"request", [p, v]) => {
-            said(core::request(table, narrow(number(p)?), narrow(number(v)?)).map(ok))
+            let (port, value) = (narrow(number(p)?), narrow(number(v)?));
+            said(core::request(held.cells(), port, value).map(ok))
         }
         (b"status", [p]) => {
-            let status = core::read_status(table, narrow(number(p)?));
+            let status = core::read_status(held.cells(), narrow(number(p)?));
             said(status.map(|word| format!("status {word}")))
         }
         (b"tick", [f, bytes]) => {
-            let ticked = core::tick(table, &hex(bytes)?, narrow(number(f)?));
+            let ticked = core::tick(held.cells(), &hex(bytes)?, narrow(number(f)?));
             said(ticked.map(|t| format!("ticked {} {} {}", t.mask_a, t.mask_b, t.closed)))
         }
-        (b"table", [bytes]) => {
-            let bytes = hex(bytes)?;
-            if !is_image(&bytes) {
-                return Some("bad image".to_string());
-            }
-            *table = bytes;
-            Some(ok(()))
-        }
-        (b"dump", []) => Some(text(table)),
+        (b"table", [bytes]) => Some(held.restore(&hex(bytes)?)),
+        (b"dump", []) => Some(held.dump()),
+        (b"cells", [bytes]) => held.hold(&hex(bytes)?),
+        (b"show", []) => Some(held.show()),
         (b"search", [bytes]) => {
             let found = core::find_power_tlv(&hex(bytes)?);
             said(found.map(|(offset, length)| format!("found {offset} {length}")))
@@ -143,7 +188,7 @@ fn call(table: &mut Vec<u8>, line: &[u8]) -> Option<String> {
 }
 
 fn answers(mut input: impl BufRead, mut output: impl Write) -> io::Result<()> {
-    let mut table = vec![0; TABLE];
+    let mut held = Held { room: [0; MOST_CELLS], number: CELLS };
     let mut line = Vec::new();
     loop {
         line.clear();
@@ -153,10 +198,14 @@ fn answers(mut input: impl BufRead, mut output: impl Write) -> io::Result<()> {
         if line.last() == Some(&b'\n') {
             line.pop();
         }
-        let before = table.clone();
-        let answer = call(&mut table, &line).unwrap_or_else(|| "bad line".to_string());
-        if answer.starts_with("refused") && table != before {
+        let before = held.clone();
+        let answer = call(&mut held, &line).unwrap_or_else(|| "bad line".to_string());
+        if (answer.starts_with("refused") || answer == BAD_IMAGE) && held != before {
             wrong("a refusal wrote the table");
+        }
+        let past = held.number.max(before.number);
+        if held.room[past..] != before.room[past..] {
+            wrong("a call wrote past the table");
         }
         writeln!(output, "{answer}")?;
     }

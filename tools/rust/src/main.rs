@@ -1,6 +1,6 @@
-//! A port from a cold start to power and shed again, another on alternative B whose requests are answered, and a power TLV
-//! read and written, through the C interface. Every answer is compared with the one that document 01 gives; a difference is
-//! an exit status of 1.
+//! A port from a cold start to power and shed again, another on alternative B whose requests are answered, a table saved and
+//! restored, and a power TLV read and written, through the C interface. Every answer is compared with the one that document 01
+//! gives; a difference is an exit status of 1.
 //!
 //!     interface            the demonstration
 //!     interface lines      answers the console's lines
@@ -9,7 +9,7 @@ mod core;
 mod lines;
 
 use crate::core::{header, Fields, Refusal, Ticked};
-use crate::core::{FORM, LONGEST_PDU, LONGEST_TLV, REQUESTED, SAMPLE, TABLE};
+use crate::core::{CELLS, FORM, IMAGE, LONGEST_PDU, LONGEST_TLV, REQUESTED, SAMPLE};
 use std::process::ExitCode;
 
 struct Shown {
@@ -31,14 +31,15 @@ impl Shown {
         got.ok()
     }
 
-    /// The numbers of an accepted call, each by its name; a refused one has none, and differs already.
-    fn ticked(&mut self, what: &str, got: Result<Ticked, Refusal>, wanted: Ticked) {
+    /// A tick's masks, the number closed, and the figure that it leaves in the table; a refused one differs already.
+    fn tick(&mut self, what: &str, table: &mut [u16], samples: &[u8], supply: u32, wanted: Ticked) {
         println!("{what}");
-        if let Some(t) = self.answers("  tick", got, header::OK) {
+        if let Some(t) = self.answers("  tick", core::tick(table, samples, supply), header::OK) {
             self.is("  mask a", t.mask_a, wanted.mask_a);
             self.is("  mask b", t.mask_b, wanted.mask_b);
             self.is("  closed", t.closed.into(), wanted.closed.into());
         }
+        self.is("  stored supply", table[header::CELL_SUPPLY].into(), supply.into());
     }
 }
 
@@ -62,7 +63,7 @@ fn last(sample: [u8; SAMPLE]) -> [u8; 3 * SAMPLE] {
 /// V1 4,000 mV, V2 5,900 mV, I1 0, I2 100 uA, detection done: 1,900/100 is valid.
 const DETECTED: [u8; SAMPLE] = [0x0f, 0xa0, 0x17, 0x0c, 0, 0, 0, 100, 0, 0, 0, 0, 0, 1];
 
-fn shed(shown: &mut Shown, table: &mut [u8]) {
+fn shed(shown: &mut Shown, table: &mut [u16]) {
     let still = [0; SAMPLE];
     // C1 10,000 uA, class done: class 1, of 4.0 W.
     let classified = [0, 0, 0, 0, 0, 0, 0, 0, 0x27, 0x10, 0, 0, 0, 2];
@@ -71,21 +72,16 @@ fn shed(shown: &mut Shown, table: &mut [u8]) {
     shown.answers("cold start of 1 port", core::cold_start(table, 1), header::OK);
     let control = core::write_control(table, 0, 0x0005);
     shown.answers("control: enabled, alternative A", control, header::OK);
-    shown.ticked("DISABLED goes to IDLE", core::tick(table, &still, 154), on_a(0));
-    shown.ticked("IDLE goes to DETECTING", core::tick(table, &still, 154), on_a(0));
-    shown.ticked(
-        "a valid signature goes to CLASSIFYING",
-        core::tick(table, &DETECTED, 154),
-        on_a(0),
-    );
-    shown.ticked(
-        "class 1 goes to POWER_UP: the port is closed",
-        core::tick(table, &classified, 154),
-        on_a(1),
-    );
-    shown.ticked("settled goes to POWER_ON", core::tick(table, &settled, 154), on_a(1));
+    shown.tick("DISABLED goes to IDLE", table, &still, 154, on_a(0));
+    shown.tick("IDLE goes to DETECTING", table, &still, 154, on_a(0));
+    shown.tick("a valid signature goes to CLASSIFYING", table, &DETECTED, 154, on_a(0));
+    shown.tick("class 1 goes to POWER_UP: the port is closed", table, &classified, 154, on_a(1));
+    shown.tick("settled goes to POWER_ON", table, &settled, 154, on_a(1));
     shown.answers("request of 39: 7.0 W", core::request(table, 0, 39), header::OVER_CLASS);
-    shown.ticked("a supply of 3.9 W sheds 4.0 W", core::tick(table, &settled, 39), on_a(0));
+    shown.tick("a supply of 3.9 W sheds 4.0 W", table, &settled, 39, on_a(0));
+    shown.is("state", table[header::CELL_STATE].into(), header::STATE_IDLE.into());
+    let latches = header::LATCH_DENIED | header::LATCH_VALID;
+    shown.is("latches", table[header::CELL_LATCHES].into(), latches.into());
     // Latches 12 denied and 11 valid signature, class 1, condition 1, bit 0.
     if let Some(word) = shown.answers("status", core::read_status(table, 0), header::OK) {
         shown.is("  word", word.into(), 0x1813);
@@ -93,10 +89,11 @@ fn shed(shown: &mut Shown, table: &mut [u8]) {
     if let Some(word) = shown.answers("status again", core::read_status(table, 0), header::OK) {
         shown.is("  word without latches", word.into(), 0x0013);
     }
+    shown.is("latches", table[header::CELL_LATCHES].into(), 0);
 }
 
 /// Each refusal leaves the table and the places for answers as they were; `core` has seen the latter at every call.
-fn refusals(shown: &mut Shown, table: &mut [u8]) {
+fn refusals(shown: &mut Shown, table: &mut [u16]) {
     let mut before = table.to_vec();
     let mut samples = [0; SAMPLE];
     shown.answers(
@@ -105,8 +102,8 @@ fn refusals(shown: &mut Shown, table: &mut [u8]) {
         header::NO_SUCH_PORT,
     );
     shown.answers(
-        "cold start in 1,013 bytes",
-        core::cold_start(&mut table[..TABLE - 1], 1),
+        "cold start in 727 cells",
+        core::cold_start(&mut table[..CELLS - 1], 1),
         header::ILL_MADE,
     );
     shown.answers("control of port 1", core::write_control(table, 1, 0x0005), header::NO_SUCH_PORT);
@@ -131,14 +128,18 @@ fn refusals(shown: &mut Shown, table: &mut [u8]) {
     shown.answers("tick at 60,001", core::tick(table, &samples, 60_001), header::SUPPLY_TOO_LARGE);
     samples[SAMPLE - 1] = 0x40;
     shown.answers("tick with flag 6", core::tick(table, &samples, 154), header::RESERVED);
+    let cut = core::tick(&mut table[..CELLS - 1], &samples, 154);
+    shown.answers("tick on 727 cells", cut, header::ILL_MADE);
     shown.is("the table is as it was", u64::from(before == table), 1);
-    // Byte 6 is port 0's state.
-    before[6] = 10;
-    shown.answers("tick of a state 10", core::tick(&mut before, &samples, 154), header::ILL_MADE);
+    table[header::CELL_STATE] = 10;
+    before[header::CELL_STATE] = 10;
+    shown.answers("tick of a state 10", core::tick(table, &samples, 154), header::ILL_MADE);
+    shown.answers("status in a state 10", core::read_status(table, 0), header::ILL_MADE);
+    shown.is("the table is as it was", u64::from(before == table), 1);
     shown.is("the places for answers are as they were", 1, 1);
 }
 
-fn requests(shown: &mut Shown, table: &mut [u8]) {
+fn requests(shown: &mut Shown, table: &mut [u16]) {
     let still = [0; SAMPLE];
     // C1 and C2 40,000 uA, class done: class 4, of 30.0 W.
     let classified = [0, 0, 0, 0, 0, 0, 0, 0, 0x9c, 0x40, 0x9c, 0x40, 0, 2];
@@ -147,26 +148,69 @@ fn requests(shown: &mut Shown, table: &mut [u8]) {
     shown.answers("cold start of 3 ports", core::cold_start(table, 3), header::OK);
     let control = core::write_control(table, 2, 0x0009);
     shown.answers("control of port 2: enabled, alternative B", control, header::OK);
-    shown.ticked("port 2 goes to IDLE", core::tick(table, &last(still), 300), on_b(0));
-    shown.ticked("port 2 goes to DETECTING", core::tick(table, &last(still), 300), on_b(0));
-    shown.ticked("port 2 goes to CLASSIFYING", core::tick(table, &last(DETECTED), 300), on_b(0));
-    shown.ticked("class 4 goes to POWER_UP", core::tick(table, &last(classified), 300), on_b(1));
+    shown.tick("port 2 goes to IDLE", table, &last(still), 300, on_b(0));
+    shown.tick("port 2 goes to DETECTING", table, &last(still), 300, on_b(0));
+    shown.tick("port 2 goes to CLASSIFYING", table, &last(DETECTED), 300, on_b(0));
+    shown.tick("class 4 goes to POWER_UP", table, &last(classified), 300, on_b(1));
     shown.answers("request in POWER_UP", core::request(table, 2, 38), header::WRONG_STATE);
-    shown.ticked("settled goes to POWER_ON", core::tick(table, &last(settled), 300), on_b(1));
+    shown.tick("settled goes to POWER_ON", table, &last(settled), 300, on_b(1));
     shown.answers("request of 38: 4.0 W", core::request(table, 2, 38), header::OK);
-    shown.ticked("a supply of 4.0 W keeps it", core::tick(table, &last(settled), 40), on_b(1));
-    shown.ticked("a supply of 29.9 W keeps it", core::tick(table, &last(settled), 299), on_b(1));
+    shown.tick("a supply of 4.0 W keeps it", table, &last(settled), 40, on_b(1));
+    shown.tick("a supply of 29.9 W keeps it", table, &last(settled), 299, on_b(1));
     shown.answers("request of 130: 30.0 W", core::request(table, 2, 130), header::OVER_SUPPLY);
     shown.answers("request of 129: 15.4 W", core::request(table, 2, 129), header::OK);
     // Latch 11 valid signature, class 4, condition 2, bit 0.
     if let Some(word) = shown.answers("status of port 2", core::read_status(table, 2), header::OK) {
         shown.is("  word", word.into(), 0x0845);
     }
-    shown.ticked("a supply of 15.3 W sheds it", core::tick(table, &last(settled), 153), on_b(0));
+    shown.tick("a supply of 15.3 W sheds it", table, &last(settled), 153, on_b(0));
     // Latch 12 denied, class 4, condition 1, bit 0.
     if let Some(word) = shown.answers("status of port 2", core::read_status(table, 2), header::OK) {
         shown.is("  word", word.into(), 0x1043);
     }
+}
+
+/// The table that was left, through its image, and past the count whatever stands there.
+fn images(shown: &mut Shown, table: &mut [u16]) {
+    let before = table.to_vec();
+    let blank = [0xa5; IMAGE];
+    let mut image = blank;
+    let cut = core::save(table, &mut image[..IMAGE - 1]);
+    shown.answers("save in 1,013 bytes", cut, header::BAD_LENGTH);
+    let cut = core::save(&table[..CELLS - 1], &mut image);
+    shown.answers("save of 727 cells", cut, header::ILL_MADE);
+    let past = header::CELL_STATE + 47;
+    table[past] = 10;
+    let saved = core::save(table, &mut image);
+    shown.answers("save of a state 10 past the count", saved, header::ILL_MADE);
+    shown.is("the image is as it was", u64::from(image == blank), 1);
+    let status = core::read_status(table, 2);
+    if let Some(word) = shown.answers("status, beside that state", status, header::OK) {
+        shown.is("  word", word.into(), 0x0043);
+    }
+    shown.is("the state past the count", table[past].into(), 10);
+    table[past] = before[past];
+    shown.is("the table is as it was", u64::from(before == table), 1);
+    shown.answers("save", core::save(table, &mut image), header::OK);
+    shown.is("  count", image[1].into(), 3);
+    // 6 bytes of head and 21 a port; the control word is a port's bytes 1 and 2.
+    shown.is("  control of port 2", image[6 + 2 * 21 + 2].into(), 0x0009);
+    restored(shown, table, image);
+}
+
+fn restored(shown: &mut Shown, table: &[u16], mut image: [u8; IMAGE]) {
+    let mut restored = [0xa5a5; CELLS];
+    let cut = core::restore(&mut restored[..CELLS - 1], &image);
+    shown.answers("restore in 727 cells", cut, header::ILL_MADE);
+    let cut = core::restore(&mut restored, &image[..IMAGE - 1]);
+    shown.answers("restore of 1,013 bytes", cut, header::ILL_MADE);
+    image[6] = 10;
+    let ill = core::restore(&mut restored, &image);
+    shown.answers("restore of a state 10", ill, header::ILL_MADE);
+    shown.is("the cells are as they were", u64::from(restored == [0xa5a5; CELLS]), 1);
+    image[6] = header::STATE_DISABLED as u8;
+    shown.answers("restore", core::restore(&mut restored, &image), header::OK);
+    shown.is("  the same table", u64::from(restored == table), 1);
 }
 
 fn frames(shown: &mut Shown) {
@@ -241,10 +285,11 @@ fn main() -> ExitCode {
         return lines::answer_all();
     }
     let mut shown = Shown { differs: false };
-    let mut table = vec![0; TABLE];
+    let mut table = [0; CELLS];
     shed(&mut shown, &mut table);
     refusals(&mut shown, &mut table);
     requests(&mut shown, &mut table);
+    images(&mut shown, &mut table);
     frames(&mut shown);
     ExitCode::from(u8::from(shown.differs))
 }

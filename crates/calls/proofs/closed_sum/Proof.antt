@@ -1,48 +1,68 @@
--- `closed_sum` is `closedSum`: the sum is that of the ports below i. 48 powers never reach the end of a sum, so each addition is exact.
--- Assumes nothing.
+-- `closed_sum` is `closedSum` with the change: the sum is that of the ports below p. Assumes nothing.
 use mathlib.Core.Path.{_≡_, refl, sym, _∙_, ap}
+use mathlib.Core.Bool.{cond}
+use mathlib.Core.List.{List}
 use Prim.Native.Nat.{ℕ, _+_, _*_, _-_, _≤_}
 use native.Mathlib.Nat.{le-antisymm}
 use native.Mathlib.Omega.{arith}
 use borrow.Author.Needs.{needs}
+use lib.ListN.{getD}
+use denote.Ref.{now}
 use Rattle.lists.specs.Total.{total, total-next}
-use Rattle.power.specs.Power.{sumOf, plus, plus-exact}
-use Rattle.power.specs.declared.Sum.{Sum}
-use Rattle.table.specs.Form.{portAt}
+use Rattle.power.specs.Power.{tenths, sumOf}
+use Rattle.port.specs.States.{closed}
 use Rattle.table.specs.Drawn.{draws, closedSum}
+use Rattle.table.specs.Form.{portAt, withPort}
+use Rattle.cells.specs.Cells.{countCell, tableOf}
+use Rattle.cells.specs.Codes.{stateOf}
+use Rattle.calls.specs.Calls.{granting}
+use Rattle.calls.specs.OnLaws.{draws-with}
 use Rattle.calls.proofs.closed_sum.Statement.{statement}
 use Rattle.calls.proofs.closed_sum.Tie as tie
 
+abbrev drawnAt : List ℕ → ℕ → ℕ → ℕ → ℕ
+drawnAt l d at q = draws (portAt (granting (tenths d) at (tableOf l)) q)
+
 abbrev Inv-loop : tie.InvT-loop
-Inv-loop table n sum₀ i₀ sum i =
-    let f : ℕ → ℕ = λ p. draws (portAt table p) in
-    (i ≤ n) × (sum ≡ sumOf (total i f)) × (total i f ≤ i * 65535)
+Inv-loop cells at n changed sum₀ p₀ sum p = (p ≤ n) × (sum ≡ total p (drawnAt cells changed at)) × (sum ≤ p * 65535)
 
 abbrev μ-loop : tie.MeasureT-loop
-μ-loop table n sum₀ i₀ sum i = n - i
+μ-loop cells at n changed sum₀ p₀ sum p = n - p
 
 pub closed-sum-spec : {M : Type 1} → statement M
-unfolding closedSum portAt total
+unfolding closedSum withPort tableOf total
 closed-sum-spec =
     tie.close
     (tie.spec
     Inv-loop
     μ-loop
     (λ c. search needs)
-    (λ c. (search needs, refl, search needs))
+    (λ c. search needs)
+    (λ c. (omega arith, refl, omega arith))
     (λ c. omega arith)
+    (λ c. search needs)
+    (λ c. omega arith)
+    (λ c. omega arith)
+    (λ c. search needs)
     (λ c. omega arith)
     (λ c κs. search needs)
     (λ c κs. search needs)
+    (λ c. omega (arith, c .drawn .ensures .1))
     (λ c. omega arith)
     (λ c. omega arith)
     (λ c.
-    let i = c .before .before .before .before .loop .i in
-    let f : ℕ → ℕ = λ p. draws (portAt (c .before .before .before .before .before .args .t1) p) in
-    let d = c .before .drawn in (
+    let k = c .before .before .before .before .before .loop in
+    let a = c .before .before .before .before .before .before .before .before .args in
+    let l = now (a .cells) in
+    let f = drawnAt l (a .demand .0) (a .at) in (
       omega arith,
-      c .plus .ensures ∙ ap (λ (s : Sum). plus s (d .result)) (c .before .before .before .before .loop .inv .1) ∙ plus-exact (total i f) (d .result) (omega arith)
-          ∙ ap (λ (x : ℕ). sumOf (total i f + x)) (d .ensures .0) ∙ ap sumOf (sym (total-next i f)),
-      omega (arith, total-next i f, d .ensures .0),
+      ap (λ (x : ℕ). k .sum + x) (c .drawn .ensures .0 ∙ ap (λ (x : ℕ). cond (closed (stateOf (getD l (8 + k .p) 0))) x 0) (c .before .pick .ensures) ∙ sym (draws-with l (a .demand) (a .at) (k .p) (omega arith)))
+          ∙ ap (λ (x : ℕ). x + f (k .p)) (k .inv .1) ∙ sym (total-next (k .p) f),
+      omega (arith, c .drawn .ensures .1),
     ))
-    (λ c. c .before .loop .inv .1 ∙ ap (λ (k : ℕ). sumOf (total k (λ p. draws (portAt (c .before .before .args .t1) p)))) (le-antisymm (c .before .loop .inv .0) (c .loop-test .left))))
+    (λ c.
+    let k = c .before .loop in
+    let a = c .before .before .before .before .args in
+    let l = now (a .cells) in
+    let e : k .p ≡ countCell l = le-antisymm (k .inv .0) (omega arith) in
+    ap sumOf (k .inv .1 ∙ ap (λ (n : ℕ). total n (drawnAt l (a .demand .0) (a .at))) e)))

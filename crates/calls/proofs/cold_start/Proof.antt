@@ -1,34 +1,43 @@
--- `cold_start` is `coldStart`: the two tests of the count.
--- Assumes nothing.
-use Prim.Native.Nat.{ℕ, _≤_, _<_}
+-- `cold_start` is `startOn`: 13 for another length, 2 for a count that no board has, and then the cold cells. Assumes nothing.
 use mathlib.Core.Path.{_≡_}
-use mathlib.Core.Bool.{true, false}
-use native.Mathlib.Omega.{arith}
-use lib.Dec.{eqb}
 use borrow.Author.Needs.{needs}
 use borrow.Author.Tests.{eq-eqb, ne-eqb, lt-ltb, le-ltb}
-use Rattle.calls.specs.Calls.{coldStart}
+use native.Mathlib.Omega.{arith}
+use denote.Ref.{now}
+use Rattle.table.specs.Form.{done, refuse}
+use Rattle.cells.specs.Cells.{tableOf}
+use Rattle.cells.specs.LentLaws.{cold-refused, cold-done}
+use Rattle.calls.specs.Calls.{coldTable, coldStart}
+use Rattle.calls.specs.OnCells.{startOn}
 use Rattle.calls.proofs.cold_start.Statement.{statement}
 use Rattle.calls.proofs.cold_start.Tie as tie
 
-none : (n : ℕ) → n < 1 → eqb n 0 ≡ true
-none n h = eq-eqb n 0 (omega arith)
-
-some : (n : ℕ) → 1 ≤ n → eqb n 0 ≡ false
-some n h = ne-eqb n 0 (λ e. omega arith)
-
 pub cold-start-spec : {M : Type 1} → statement M
-unfolding coldStart
+unfolding startOn coldStart
 cold-start-spec =
     tie.close
     (tie.spec
-    (λ c κs. search needs)
-    (λ c κs. search needs)
-    (λ c. simp (c .refuse .ensures, c .before .cold-table .ensures, none _ (c .before .before .if1 .taken)))
-    (λ c κs. search needs)
-    (λ c κs. search needs)
-    (λ c. simp (c .refuse2 .ensures, c .before .cold-table2 .ensures, some _ (c .before .before .before .if1 .left), lt-ltb _ _ (c .before .before .if2 .taken)))
+    (λ c.
+    let l = now (c .before .before .args .cells) in
+    let n = c .before .before .args .ports in
+    let e : startOn l n ≡ refuse 13 (tableOf l) = simp (ne-eqb _ _ (c .if1 .taken)) in
+    cold-refused (startOn l n) (tableOf l) l 13 e)
+    (λ c.
+    let l = now (c .before .before .before .args .cells) in
+    let n = c .before .before .before .args .ports in
+    let z : n ≡ 0 = omega (arith, c .if2 .taken) in
+    let e : startOn l n ≡ refuse 2 (coldTable 0) = simp (eq-eqb _ _ (c .before .if1 .left), eq-eqb n 0 z) in
+    cold-refused (startOn l n) (coldTable 0) l 2 e)
+    (λ c.
+    let l = now (c .before .before .before .before .args .cells) in
+    let n = c .before .before .before .before .args .ports in
+    let e : startOn l n ≡ refuse 2 (coldTable 0) = simp (eq-eqb _ _ (c .before .before .if1 .left), ne-eqb n 0 (λ z. omega (arith, c .before .if2 .left)), lt-ltb _ _ (c .if3 .taken)) in
+    cold-refused (startOn l n) (coldTable 0) l 2 e)
     (λ c. search needs)
     (λ c κs. search needs)
-    (λ c κs. search needs)
-    (λ c. simp (c .done .ensures, c .before .cold-table3 .ensures, some _ (c .before .before .before .if1 .left), le-ltb _ _ (c .before .before .if2 .left))))
+    (λ c. search needs)
+    (λ c.
+    let l = now (c .before .before .before .before .before .before .before .before .args .cells) in
+    let n = c .before .before .before .before .before .before .before .before .args .ports in
+    let e : startOn l n ≡ done (coldTable n) = simp (eq-eqb _ _ (c .before .before .before .before .before .before .if1 .left), ne-eqb n 0 (λ z. omega (arith, c .before .before .before .before .before .if2 .left)), le-ltb _ _ (c .before .before .before .before .if3 .left)) in
+    cold-done (startOn l n) (coldTable n) l _ e (c .before .before .fill .ensures)))

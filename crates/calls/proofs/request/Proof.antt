@@ -1,24 +1,55 @@
--- `request` is `request`: 13, then 2, then the port's own answer. A port below the count of a well-made table is below 48.
+-- `request` is `requestOn`: 13, then 2, and then what the ladder asks of the port. A port below the count of well-made cells is below 48.
 -- Assumes nothing.
-use mathlib.Core.Path.{sym, _∙_}
-use borrow.Author.Needs.{needs}
+use mathlib.Core.Path.{_≡_, sym, _∙_, ap}
+use mathlib.Core.Bool.{true, false}
 use native.Mathlib.Omega.{arith}
-use borrow.Author.Tests.{le-leb, lt-leb, not-true, not-false}
-use Rattle.table.specs.Laws.{ill-made, none-ill, well-count}
-use Rattle.calls.specs.Calls.{request}
+use borrow.Author.Needs.{needs}
+use borrow.Author.Tests.{not-true, not-false}
+use denote.Ref.{now}
+use Rattle.table.specs.declared.form.Told.{Told}
+use Rattle.cells.specs.Cells.{tableOf}
+use Rattle.cells.specs.Lent.{cellsTold}
+use Rattle.cells.specs.LentLaws.{told-refused}
+use Rattle.well.specs.Judged.{wellCells}
+use Rattle.well.specs.Laws.{cells-of}
+use Rattle.calls.specs.OnCells.{requestOn}
+use Rattle.calls.specs.OnLaws.{at-port, request-ill, request-no-port, request-goes}
 use Rattle.calls.proofs.request.Statement.{statement}
 use Rattle.calls.proofs.request.Tie as tie
 
 pub request-spec : {M : Type 1} → statement M
-unfolding request
 request-spec =
     tie.close
     (tie.spec
     (λ c κs. search needs)
-    (λ c κs. search needs)
-    (λ c. simp (c .refuse .ensures, ill-made _ (sym (c .before .before .well-made .ensures) ∙ not-true (c .before .before .well-made .result) (c .before .if1 .taken))))
     (λ c. search needs)
-    (λ c κs. search needs)
-    (λ c. simp (c .refuse2 .ensures, none-ill _ (sym (c .before .before .before .before .well-made .ensures) ∙ not-false (c .before .before .before .before .well-made .result) (c .before .before .before .if1 .left)), le-leb _ _ (c .before .if2 .taken)))
-    (λ c κs. omega (arith, well-count (c .before .before .before .before .args .table) (sym (c .before .before .before .well-made .ensures) ∙ not-false (c .before .before .before .well-made .result) (c .before .before .if1 .left))))
-    (λ c. simp (c .requested-of .ensures, none-ill _ (sym (c .before .before .before .before .well-made .ensures) ∙ not-false (c .before .before .before .before .well-made .result) (c .before .before .before .if1 .left)), lt-leb _ _ (c .before .if2 .left))))
+    (λ c.
+    let l = now (c .before .before .before .before .args .cells) in
+    let p = c .before .before .before .before .args .port in
+    let v = c .before .before .before .before .args .value in
+    let e : wellCells l ≡ false = sym (c .before .well-made .ensures) ∙ not-true (c .before .well-made .result) (c .if1 .taken) in
+    told-refused (requestOn l p v) (tableOf l) l 13 (request-ill l p v e))
+    (λ c.
+    let l = now (c .before .before .before .before .before .args .cells) in
+    let e : wellCells l ≡ true = sym (c .before .before .well-made .ensures) ∙ not-false (c .before .before .well-made .result) (c .before .if1 .left) in
+    omega (arith, cells-of l e .long))
+    (λ c. omega (arith, c .slice-known2 .given 0))
+    (λ c. search needs)
+    (λ c.
+    let l = now (c .before .before .before .before .before .before .args .cells) in
+    let p = c .before .before .before .before .before .before .args .port in
+    let v = c .before .before .before .before .before .before .args .value in
+    let e : wellCells l ≡ true = sym (c .before .before .before .well-made .ensures) ∙ not-false (c .before .before .before .well-made .result) (c .before .before .if1 .left) in
+    told-refused (requestOn l p v) (tableOf l) l 2 (request-no-port l p v e (c .if2 .taken)))
+    (λ c κs.
+    let l = now (c .before .before .before .before .before .before .before .args .cells) in
+    let e : wellCells l ≡ true = sym (c .before .before .before .before .well-made .ensures) ∙ not-false (c .before .before .before .before .well-made .result) (c .before .before .before .if1 .left) in
+    at-port l (c .before .before .before .before .before .before .before .args .port) e (c .before .if2 .left))
+    (λ c. search needs)
+    (λ c.
+    let l = now (c .before .before .before .before .before .before .before .before .before .before .args .cells) in
+    let p = c .before .before .before .before .before .before .before .before .before .before .args .port in
+    let v = c .before .before .before .before .before .before .before .before .before .before .args .value in
+    let e : wellCells l ≡ true = sym (c .before .before .before .before .before .before .before .well-made .ensures) ∙ not-false (c .before .before .before .before .before .before .before .well-made .result) (c .before .before .before .before .before .before .if1 .left) in
+    let g = request-goes l p v e (c .before .before .before .before .if2 .left) in
+    (c .before .before .requested .ensures .0 ∙ ap (λ (x : Told). x .answer) (sym g), c .before .before .requested .ensures .1 ∙ ap (λ (x : Told). cellsTold x l) (sym g))))

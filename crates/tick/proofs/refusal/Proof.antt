@@ -1,26 +1,66 @@
--- `refusal` is `refusalOf`: 13, 1, 4, then 3, or nothing.
+-- `refusal` is `refusalOf`, and where nothing is refused the lane has the flags.
 -- Assumes nothing.
-use mathlib.Core.Path.{sym, _∙_}
+use mathlib.Core.Path.{_≡_, sym, _∙_, ap}
+use mathlib.Core.Bool.{Bool, true, false, _&&_}
+use mathlib.Core.List.{List}
+use Prim.Native.Nat.{ℕ, _*_}
+use native.Mathlib.Omega.{arith}
+use lib.ListN.{length}
 use borrow.Author.Needs.{needs}
-use borrow.Author.Tests.{eq-eqb, ne-eqb, lt-ltb, le-ltb, not-true, not-false}
-use Rattle.tick.specs.Passes.{refusalOf}
+use borrow.Author.Tests.{not-true, not-false, eq-eqb, ne-eqb, lt-ltb, le-ltb}
+use denote.Ref.{now}
+use Rattle.lists.specs.Every.{every}
+use Rattle.cells.specs.Cells.{countCell}
+use Rattle.well.specs.Judged.{headCells, wellCells, portFine}
+use Rattle.well.specs.Laws.{well-cells, head-long, head-count}
+use Rattle.tick.specs.Passes.{refusalOf, flagsFine}
 use Rattle.tick.proofs.refusal.Statement.{statement}
 use Rattle.tick.proofs.refusal.Tie as tie
+
+-- cells without a well-made head are not well-made
+no-head : (l : List ℕ) → headCells l ≡ false → wellCells l ≡ false
+no-head l e = well-cells l ∙ ap (λ (b : Bool). b && every (countCell l) (portFine l)) e
 
 pub refusal-spec : {M : Type 1} → statement M
 unfolding refusalOf
 refusal-spec =
     tie.close
     (tie.spec
-    (λ c. simp (not-true (c .before .before .args .well) (c .if1 .taken)))
-    (λ c. search needs)
-    (λ c. simp (not-false (c .before .before .before .args .well) (c .before .if1 .left), ne-eqb _ _ (c .if2 .taken)))
-    (λ c. search needs)
-    (λ c. simp (not-false (c .before .before .before .before .args .well) (c .before .before .if1 .left), eq-eqb _ _ (c .before .if2 .left), lt-ltb _ _ (c .if3 .taken)))
-    (λ c κs. c .before .if2 .left)
+    (λ c κs. search needs)
     (λ c.
-    let s = c .before .before in
-    simp (not-false (s .before .before .before .before .args .well) (s .before .before .if1 .left), eq-eqb _ _ (s .before .if2 .left), le-ltb _ _ (s .if3 .left), sym (c .before .flags-fine .ensures) ∙ c .if4 .taken))
+    let e = no-head (now (c .before .before .before .before .before .args .cells)) (sym (c .before .well-head .ensures) ∙ not-true _ (c .if1 .taken)) in
+    (simp e, λ z. absurd (omega arith)))
+    (λ c. omega (arith, head-long (now (c .before .before .before .before .before .before .args .cells)) (sym (c .before .before .well-head .ensures) ∙ not-false _ (c .before .if1 .left))))
+    (λ c. omega (arith, head-count (now (c .before .before .before .before .before .before .args .cells)) (sym (c .before .before .well-head .ensures) ∙ not-false _ (c .before .if1 .left))))
+    (λ c κs. (head-count (now (c .before .before .before .before .before .before .before .args .cells)) (sym (c .before .before .before .well-head .ensures) ∙ not-false _ (c .before .before .if1 .left)), c .before .before .before .before .before .before .before .pre))
+    (λ c κs. search needs)
+    (λ c. search needs)
     (λ c.
-    let s = c .before .before in
-    simp (not-false (s .before .before .before .before .args .well) (s .before .before .if1 .left), eq-eqb _ _ (s .before .if2 .left), le-ltb _ _ (s .if3 .left), sym (c .before .flags-fine .ensures) ∙ c .if4 .left)))
+    let e = sym (c .before .well-made .ensures) ∙ not-true _ (c .if2 .taken) in
+    (simp e, λ z. absurd (omega arith)))
+    (λ c. omega (arith, head-count (now (c .before .before .before .before .before .before .before .before .before .before .before .before .args .cells)) (sym (c .before .before .before .before .before .before .before .before .well-head .ensures) ∙ not-false _ (c .before .before .before .before .before .before .before .if1 .left))))
+    (λ c. search needs)
+    (λ c.
+    let e = sym (c .before .before .well-made .ensures) ∙ not-false _ (c .before .if2 .left) in
+    (simp (e, ne-eqb _ _ (c .if3 .taken)), λ z. absurd (omega arith)))
+    (λ c. search needs)
+    (λ c. search needs)
+    (λ c.
+    let e = sym (c .before .before .before .well-made .ensures) ∙ not-false _ (c .before .before .if2 .left) in
+    (simp (e, eq-eqb _ _ (c .before .if3 .left), lt-ltb _ _ (c .if4 .taken)), λ z. absurd (omega arith)))
+    (λ c. search needs)
+    (λ c.
+    let a = c .before .before .before .before .before .before .before .before .before .before .before .before .before .before .before .args in
+    let e = sym (c .before .before .before .before .well-made .ensures) ∙ not-false _ (c .before .before .before .if2 .left) in
+    let long = eq-eqb _ _ (c .before .before .if3 .left) in
+    let f : flagsFine (countCell (now (a .cells))) (now (a .block)) ≡ true =
+    ap (λ (b : Bool). b && flagsFine (countCell (now (a .cells))) (now (a .block))) (sym long) ∙ sym (c .before .before .before .before .before .before .before .flags-if .ensures .0) ∙ c .if5 .taken in
+    (simp (e, long, le-ltb _ _ (c .before .if4 .left), f), λ z. c .before .before .before .before .before .before .before .flags-if .ensures .1 (c .if5 .taken)))
+    (λ c. search needs)
+    (λ c.
+    let a = c .before .before .before .before .before .before .before .before .before .before .before .before .before .before .before .args in
+    let e = sym (c .before .before .before .before .well-made .ensures) ∙ not-false _ (c .before .before .before .if2 .left) in
+    let long = eq-eqb _ _ (c .before .before .if3 .left) in
+    let f : flagsFine (countCell (now (a .cells))) (now (a .block)) ≡ false =
+    ap (λ (b : Bool). b && flagsFine (countCell (now (a .cells))) (now (a .block))) (sym long) ∙ sym (c .before .before .before .before .before .before .before .flags-if .ensures .0) ∙ c .if5 .left in
+    (simp (e, long, le-ltb _ _ (c .before .if4 .left), f), λ z. absurd (omega arith))))

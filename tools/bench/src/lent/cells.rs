@@ -1,12 +1,14 @@
-//! The lent table: 16-bit cells, eight of head, then 48 of each field.
+//! The lent table, as include/ipaqsuni.h has it: 16-bit cells, eight of head, then 48 of each field.
 
 use crate::plain::form::PLACES;
 
 pub const HEAD: usize = 8;
 pub const FIELDS: usize = 12;
-pub const CELLS: usize = HEAD + FIELDS * PLACES;
+/// Fields that are nobody's yet, after those.
+pub const RESERVED: usize = 3;
+pub const CELLS: usize = HEAD + (FIELDS + RESERVED) * PLACES;
 
-// In the head; its other cells are free, and never change.
+// In the head; its other cells are reserved too. What is reserved never changes.
 pub const COUNT: usize = 0;
 pub const SUPPLY: usize = 1;
 
@@ -48,53 +50,10 @@ pub fn parted(cells: &mut [u16]) -> Option<(&mut [u16; HEAD], &mut Fields)> {
     }
     let (head, rest) = cells.split_first_chunk_mut()?;
     let (fields, _) = rest.as_chunks_mut();
-    Some((head, fields.try_into().ok()?))
+    Some((head, fields.first_chunk_mut()?))
 }
 
-/// Where a field stands in a port's 21 bytes of image, and whether it has two bytes there.
-const IN_IMAGE: [(usize, bool); FIELDS] = [
-    (0, false),
-    (1, true),
-    (4, true),
-    (3, false),
-    (6, false),
-    (7, true),
-    (9, true),
-    (11, true),
-    (13, true),
-    (15, true),
-    (17, true),
-    (19, true),
-];
-const IMAGE_HEAD: usize = 6;
-const IMAGE_PORT: usize = 21;
-
-/// The cells of an image of 1,014 bytes whose supply fits a cell; whatever it holds else.
-pub fn of_image(image: &[u8]) -> Vec<u16> {
-    let word = |at: usize| u16::from_be_bytes([image[at], image[at + 1]]);
-    let mut cells = vec![0; HEAD];
-    (cells[COUNT], cells[SUPPLY]) = (word(0), word(4));
-    for (at, wide) in IN_IMAGE {
-        let places = (0..PLACES).map(|p| IMAGE_HEAD + p * IMAGE_PORT + at);
-        cells.extend(places.map(|at| if wide { word(at) } else { u16::from(image[at]) }));
-    }
-    cells
-}
-
-/// The image of cells that `of_image` made, and a tick moved.
-pub fn image_of(cells: &[u16]) -> Vec<u8> {
-    let mut image = vec![0; IMAGE_HEAD + PLACES * IMAGE_PORT];
-    image[..2].copy_from_slice(&cells[COUNT].to_be_bytes());
-    image[4..6].copy_from_slice(&cells[SUPPLY].to_be_bytes());
-    for (field, (at, wide)) in IN_IMAGE.into_iter().enumerate() {
-        for p in 0..PLACES {
-            let (cell, at) = (cells[HEAD + field * PLACES + p], IMAGE_HEAD + p * IMAGE_PORT + at);
-            if wide {
-                image[at..at + 2].copy_from_slice(&cell.to_be_bytes());
-            } else {
-                image[at] = cell as u8;
-            }
-        }
-    }
-    image
+/// Where a field of a port stands.
+pub fn cell(field: usize, port: usize) -> usize {
+    HEAD + field * PLACES + port
 }

@@ -2,7 +2,6 @@
 //! place. It shares the readings of a sample with the first, and nothing with the proved code.
 
 pub mod cells;
-pub mod laps;
 mod quick;
 mod share;
 pub mod tick;

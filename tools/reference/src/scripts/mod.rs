@@ -4,11 +4,13 @@
 mod alone;
 mod bad;
 mod calls;
+mod cells;
 mod frames;
 mod readings;
 mod tables;
 mod walks;
 
+use crate::cells::seen;
 use crate::lines::{hex_text, Answer, Console};
 use crate::port::State;
 use crate::random::Random;
@@ -25,9 +27,10 @@ pub enum Kind {
     Readings,
     Bad,
     Alone,
+    Cells,
 }
 
-/// The kinds of a mixed script, with their share of its lines.
+/// The kinds of a mixed script, with their share of its lines but the last part.
 const SHARES: [(Kind, u64); 7] = [
     (Kind::Walks, 55),
     (Kind::Limits, 8),
@@ -37,6 +40,9 @@ const SHARES: [(Kind, u64); 7] = [
     (Kind::Bad, 3),
     (Kind::Alone, 8),
 ];
+
+/// The last of so many parts of a mixed script is of tables as cells.
+const CELLS_PART: u64 = 17;
 
 /// In a mixed script at most one line in so many is an image; those that show one
 /// thing alone, and the first dumps of each exit, come on top.
@@ -56,6 +62,7 @@ impl Kind {
             "readings" => Kind::Readings,
             "bad" => Kind::Bad,
             "alone" => Kind::Alone,
+            "cells" => Kind::Cells,
             _ => return None,
         })
     }
@@ -64,12 +71,14 @@ impl Kind {
 pub struct Maker {
     pub r: Random,
     pub console: Console,
+    held: Table,
     out: Vec<u8>,
     lines: u64,
     wanted: u64,
     images: u64,
     scarce: bool,
     turns: [u64; 12],
+    cell_turns: [u64; 10],
     /// How often a dump came right after each exit of a walk.
     dumped: BTreeMap<(State, State, &'static str), u64>,
     pub long_lines: u64,
@@ -81,12 +90,14 @@ pub fn made(seed: u64, wanted: u64, kind: Kind) -> Vec<u8> {
     let mut maker = Maker {
         r: Random::new(seed),
         console: Console::new(),
+        held: Table::zero(),
         out: Vec::new(),
         lines: 0,
-        wanted,
+        wanted: if kind == Kind::Mixed { wanted - wanted / CELLS_PART } else { wanted },
         images: 0,
         scarce: kind == Kind::Mixed,
         turns: [0; 12],
+        cell_turns: [0; 10],
         dumped: BTreeMap::new(),
         long_lines: 0,
         walk_lines: 0,
@@ -95,6 +106,8 @@ pub fn made(seed: u64, wanted: u64, kind: Kind) -> Vec<u8> {
     for turn in 0..maker.turns.len() {
         maker.turns[turn] = maker.r.below(1_000);
     }
+    let mut cell_lot = Random::new(!seed);
+    maker.cell_turns = maker.cell_turns.map(|_| cell_lot.below(1_000));
     let mut written = [0; SHARES.len()];
     while !maker.full() {
         let mut next = if kind == Kind::Mixed { most_behind(&written, maker.lines) } else { kind };
@@ -106,6 +119,10 @@ pub fn made(seed: u64, wanted: u64, kind: Kind) -> Vec<u8> {
         if let Some(k) = SHARES.iter().position(|(kind, _)| *kind == next) {
             written[k] += maker.lines - before;
         }
+    }
+    maker.wanted = wanted;
+    while !maker.full() {
+        maker.episode(Kind::Cells);
     }
     maker.out
 }
@@ -127,6 +144,7 @@ impl Maker {
             Kind::Readings => readings::readings(self),
             Kind::Bad => bad::bad(self),
             Kind::Alone => self.unrationed(alone::alone),
+            Kind::Cells => self.unrationed(cells::cells),
         }
     }
 
@@ -145,6 +163,12 @@ impl Maker {
         self.turns[which]
     }
 
+    /// The same for tables as cells.
+    pub fn cell_turn(&mut self, which: usize) -> usize {
+        self.cell_turns[which] += 1;
+        self.cell_turns[which] as usize
+    }
+
     /// Writes a line and runs it; a full script takes none.
     pub fn bytes(&mut self, line: &[u8]) -> Answer {
         if self.full() {
@@ -154,6 +178,7 @@ impl Maker {
         self.out.extend_from_slice(line);
         self.out.push(b'\n');
         let answer = self.console.answer(line);
+        self.held = seen(&self.console.cells);
         if matches!(answer, Answer::Image(_)) || line.starts_with(b"table") && line.len() > 1_000 {
             self.images += 1;
         }
@@ -165,12 +190,12 @@ impl Maker {
     }
 
     pub fn table(&self) -> &Table {
-        &self.console.table
+        &self.held
     }
 
     /// The held table's count, at most 48.
     pub fn ports(&self) -> u64 {
-        u64::from(self.console.table.count).min(48)
+        u64::from(self.held.count).min(48)
     }
 
     pub fn lines(&self) -> u64 {

@@ -119,7 +119,7 @@ pub fn limits(maker: &mut Maker) {
     }
 }
 
-fn pressing_tick(maker: &mut Maker, stress: u64) {
+pub fn pressing_tick(maker: &mut Maker, stress: u64) {
     let mut block = Vec::new();
     for _ in 0..maker.ports() {
         block.extend(pressing(&mut maker.r).bytes());
@@ -130,7 +130,7 @@ fn pressing_tick(maker: &mut Maker, stress: u64) {
 }
 
 /// A control word, a status read or a request, wrong ones too.
-fn some_call(maker: &mut Maker) {
+pub fn some_call(maker: &mut Maker) {
     match maker.r.below(10) {
         0..=3 => status_line(maker),
         4 | 5 => control_line(maker),

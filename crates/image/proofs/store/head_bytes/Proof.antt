@@ -1,15 +1,18 @@
--- `head_bytes` is `headBytes`.
+-- `head_bytes` is `headBytes` of the table that the cells are.
 -- Assumes nothing.
 use borrow.Author.Needs.{needs}
+use Rattle.cells.specs.Cells.{tableOf}
 use Rattle.image.specs.Image.{headBytes}
 use Rattle.image.proofs.store.head_bytes.Statement.{statement}
 use Rattle.image.proofs.store.head_bytes.Tie as tie
 
 pub head-bytes-spec : {M : Type 1} → statement M
-unfolding headBytes
+unfolding headBytes tableOf
 head-bytes-spec =
     tie.close
     (tie.spec
+    (λ c. search needs)
+    (λ c. search needs)
     (λ c κs. search needs)
     (λ c κs. search needs)
     (λ c κs. search needs)

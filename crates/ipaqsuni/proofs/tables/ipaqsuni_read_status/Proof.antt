@@ -1,48 +1,26 @@
--- `ipaqsuni_read_status` is `statusCall`: what is no image is refused before the call; an accepted call leaves its table's image and its answer,
--- and a refused one nothing.
+-- `ipaqsuni_read_status`: an accepted call leaves its word, and a refused one nothing.
 -- Assumes nothing.
-use mathlib.Core.Path.{_∙_, sym, ap}
-use denote.Ref.{now}
+use mathlib.Core.Path.{_∙_, sym}
 use borrow.Author.Needs.{needs}
-use borrow.Author.Tests.{not-true, not-false}
-use Rattle.calls.specs.Calls.{readStatus}
-use Rattle.ipaqsuni.specs.Calls.{worded, ofStatus, statusCall}
-use Rattle.ipaqsuni.proofs.Lent.{image-stores, no-image, an-image, stored}
 use Rattle.ipaqsuni.proofs.tables.ipaqsuni_read_status.Statement.{statement}
 use Rattle.ipaqsuni.proofs.tables.ipaqsuni_read_status.Tie as tie
 
 pub ipaqsuni-read-status-spec : {M : Type 1} → statement M
-unfolding statusCall
 ipaqsuni-read-status-spec =
     tie.close
     (tie.spec
     (λ c κs. search needs)
     (λ c. search needs)
-    (λ c.
-    let l = c .before .before .load in
-    let a = c .before .before .before .before .before .args in
-    let e = no-image (now (a .table)) (l .result) (l .ensures) (λ t. ofStatus (readStatus t (a .port))) (not-true _ (c .if1 .taken)) in
-    (simp e, (simp e, simp e)))
-    (λ c κs. search needs)
-    (λ c. search needs)
-    (λ c κs. search needs)
     (λ c. search needs)
     (λ c. search needs)
     (λ c. search needs)
     (λ c. search needs)
     (λ c.
-    let l = c .before .before .before .before .before .before .before .before .before .before .before .before .load in
-    let a = c .before .before .before .before .before .before .before .before .before .before .before .before .before .before .before .args in
-    let ok = not-false _ (c .before .before .before .before .before .before .before .before .before .before .if1 .left) in
-    let told = c .before .before .before .before .before .before .before .before .read-status in
-    let e = an-image (now (a .table)) (l .result) (l .ensures) (λ t. ofStatus (readStatus t (a .port))) ok ∙ ap ofStatus (sym (told .ensures)) ∙ ap (worded (told .result .table)) (c .before .before .before .before .before .before .answer .given .1) in
-    let image = c .before .before .store .ensures .1 ∙ stored (told .result .table) (now (a .table)) (image-stores (now (a .table)) (l .result) (l .ensures) ok) in
-    (simp e, (simp e image, simp e)))
+    let told = c .before .before .before .before .before .read-status .ensures in
+    let e = sym (told .0) ∙ c .before .word .given .1 in
+    (simp e, (told .1, simp e)))
     (λ c. search needs)
     (λ c.
-    let l = c .before .before .before .before .before .before .before .load in
-    let a = c .before .before .before .before .before .before .before .before .before .before .args in
-    let ok = not-false _ (c .before .before .before .before .before .if1 .left) in
-    let told = c .before .before .before .read-status in
-    let e = an-image (now (a .table)) (l .result) (l .ensures) (λ t. ofStatus (readStatus t (a .port))) ok ∙ ap ofStatus (sym (told .ensures)) ∙ ap (worded (told .result .table)) (c .before .answer2 .given .1) in
-    (simp e, (simp e, simp e))))
+    let told = c .before .before .before .before .before .read-status .ensures in
+    let e = sym (told .0) ∙ c .before .number .given .1 in
+    (simp e, (told .1, simp e))))

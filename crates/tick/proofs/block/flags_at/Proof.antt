@@ -4,11 +4,12 @@ use Prim.Native.Nat.{ℕ, _+_, _*_}
 use native.Mathlib.Omega.{arith}
 use borrow.Author.Needs.{needs}
 use Rattle.reading.specs.Sample.{wordAt, sampleAt}
+use Rattle.tick.specs.Passes.{flagsOfPort}
 use Rattle.tick.proofs.block.flags_at.Statement.{statement}
 use Rattle.tick.proofs.block.flags_at.Tie as tie
 
 pub flags-at-spec : {M : Type 1} → statement M
-unfolding sampleAt wordAt
+unfolding flagsOfPort sampleAt wordAt
 flags-at-spec =
     tie.close
     (tie.spec

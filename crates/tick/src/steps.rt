@@ -1,0 +1,86 @@
+// The whole step of the ports that the quick pass has marked.
+use crate::block::sample;
+use crate::digest::digest_of;
+use crate::ports::port_at;
+use crate::ports::put_port;
+use diagram::step;
+use power::Power;
+ghost use mathlib.Core.Path.{_≡_};
+ghost use mathlib.Core.Bool.{true, false, cond, not, _&&_};
+ghost use Prim.Native.Nat.{ℕ, _+_, _*_, _/_, _<_, _≤_};
+ghost use lib.Dec.{eqb};
+ghost use lib.ListN.{length, getD};
+ghost use Rattle.lists.specs.Bits.{one};
+ghost use Rattle.lists.specs.Every.{someBelow};
+ghost use Rattle.cells.specs.Cells.{portOf, written};
+ghost use Rattle.cells.specs.Laws.{Holds};
+ghost use Rattle.cells.specs.Writes.{withPortCells};
+ghost use Rattle.tick.specs.Passes.{Classes, isSet, wholeMove, markedMove, steppedPort, steppedLane};
+
+// The port at a place takes its whole step if it is marked. Does it ask?
+fn stepped(cells: &mut [u16], block: &[u8], p: usize, mark: u16) -> bool
+    requires { ⌜ (length (now cells) ≡ 728) × (p < 48) × (p < length (now block) / 14) × (getD (now cells) (152 + p) 0 < 256) ⌝ }
+    ensures { λ r. ⌜ r ≡ markedMove mark (now (block .entry)) (now (cells .entry)) p .asks ⌝ }
+    ensures { λ _. ⌜ now (cells .exit) ≡ cond (isSet mark) (withPortCells p (wholeMove (now (block .entry)) (now (cells .entry)) p .port) (now (cells .entry))) (now (cells .entry)) ⌝ }
+{
+    if mark == 0 {
+        return false;
+    }
+    let moved = step(
+        Power::FORCED,
+        port_at(cells, p),
+        digest_of(sample(block, p)),
+    );
+    let port = moved.port;
+    put_port(cells, p, port);
+    moved.asks
+}
+
+fn said(asks: bool) -> u16
+    ensures { λ r. ⌜ r ≡ one asks ⌝ }
+{
+    if asks { 1 } else { 0 }
+}
+
+// Eight ports from here on that have no mark.
+fn clear_ahead(lane: &[u16], p: usize, n: usize) -> bool
+    requires { ⌜ (length (now lane) ≡ 48) × (p < n) × (n ≤ 48) ⌝ }
+    ensures { λ r. ⌜ (r ≡ true → (p + 8 ≤ n) × ((q : ℕ) → q < 8 → getD (now (lane .entry)) (p + q) 0 ≡ 0)) ⌝ }
+{
+    if p % 8 != 0 {
+        return false;
+    }
+    if n < p + 8 {
+        return false;
+    }
+    (lane[p] == 0)
+        & (lane[p + 1] == 0)
+        & (lane[p + 2] == 0)
+        & (lane[p + 3] == 0)
+        & (lane[p + 4] == 0)
+        & (lane[p + 5] == 0)
+        & (lane[p + 6] == 0)
+        & (lane[p + 7] == 0)
+}
+
+// The lane has the marks at first, and then a 1 for each port that asks to be closed. Does one?
+pub fn steps(cells: &mut [u16], n: usize, block: &[u8], lane: &mut [u16]) -> bool
+    requires { ⌜ (length (now cells) ≡ 728) × (n ≤ 48) × (length (now block) ≡ 14 * n) × (length (now lane) ≡ 48) × Holds n (now cells) × Classes n (now cells) ⌝ }
+    ensures { λ r. ⌜ r ≡ someBelow n (λ p. markedMove (getD (now (lane .entry)) p 0) (now (block .entry)) (now (cells .entry)) p .asks) ⌝ }
+    ensures { λ _. ⌜ now (cells .exit) ≡ written n (steppedPort (now (lane .entry)) (now (block .entry)) (now (cells .entry))) (now (cells .entry)) ⌝ }
+    ensures { λ _. ⌜ now (lane .exit) ≡ steppedLane n (now (block .entry)) (now (cells .entry)) (now (lane .entry)) ⌝ }
+{
+    let mut some = false;
+    let mut p = 0;
+    while p < n {
+        if clear_ahead(lane, p, n) {
+            p += 8;
+        } else {
+            let asks = stepped(cells, block, p, lane[p]);
+            lane[p] = said(asks);
+            some = some | asks;
+            p += 1;
+        }
+    }
+    some
+}
