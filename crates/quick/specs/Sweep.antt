@@ -15,8 +15,7 @@ use borrow.Author.Tests.{lt-ltb, le-ltb, le-leb, lt-leb, ltb-true, ltb-false, le
 use Rattle.lists.specs.Every.{someBelow}
 use Rattle.lists.specs.Places.{tabulate}
 use Rattle.lists.specs.Tests.{and-left, and-right}
-use Rattle.power.specs.Power.{tenths, zeroPower, same}
-use Rattle.words.specs.Control.{isOff, isOn, isForced}
+use Rattle.power.specs.Power.{tenths, same}
 use Rattle.words.specs.declared.control.Enable.{Enable}
 use Rattle.words.specs.declared.control.Enable.the-variants.{Disabled as Off, Enabled, Forced, Reserved}
 use Rattle.port.specs.Entry.{up, during}
@@ -25,7 +24,6 @@ use Rattle.port.specs.States.{codeOf}
 use Rattle.port.specs.declared.form.Counts.{Counts}
 use Rattle.port.specs.declared.form.State.{State}
 use Rattle.port.specs.declared.form.State.the-variants.{Disabled, Idle, Detecting, Backoff, Classifying, PowerUp, PowerOn, ErrorDelay, TestMode, TestError}
-use Rattle.diagram.specs.Rules.{detectingEnds, backoffEnds, errorDelayEnds, classifyingEnds, powerUpEnds, faultBy, loadAbsent}
 use Rattle.cells.specs.Cells.{cellsLong, countCell, countsOf}
 use Rattle.cells.specs.Writes.{withCountCells, countFields, length-writes, writes-other}
 use Rattle.quick.specs.declared.Glance.{Glance}
@@ -104,7 +102,7 @@ module _ (k e d : ℕ) (s : Signs) (c : Counts) where
 
   -- one of these moves is the port's
   abbrev moves : Bool
-  moves = ((((shut || detects) || backs) || delays) || classes) || stands
+  moves = ((shut || detects) || (backs || delays)) || (classes || stands)
 
   -- the counters after the pass, and a mark where only the whole step tells
   unfoldable pub looked : Look

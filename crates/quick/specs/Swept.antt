@@ -1,7 +1,7 @@
 -- What the pass leaves in the cells of a well-made table: a port whose move only counts has made it, and one that is marked is as it was.
 -- Assumes nothing.
 use Prim.Native.Nat.{ℕ, zero, suc, _+_, _%_, _≤_, _<_}
-use mathlib.Core.Path.{_≡_, refl, sym, _∙_, ap, ap₂}
+use mathlib.Core.Path.{_≡_, refl, sym, _∙_, ap}
 use mathlib.Core.Bool.{Bool, true, false, cond, not, true≢false, false≢true}
 use mathlib.Core.List.{List}
 use native.Mathlib.Nat.{le-refl}
@@ -17,21 +17,19 @@ use Rattle.words.specs.declared.control.Enable.{Enable}
 use Rattle.words.specs.declared.control.Enable.the-variants.{Disabled as Off, Enabled, Forced, Reserved}
 use Rattle.port.specs.Form.{withCounts, quietly}
 use Rattle.port.specs.declared.form.Counts.{Counts}
-use Rattle.port.specs.declared.form.Moved.{Moved}
 use Rattle.port.specs.declared.form.Port.{Port}
 use Rattle.port.specs.declared.form.Reading.{Reading}
 use Rattle.diagram.specs.Step.{step}
 use Rattle.cells.specs.Cells.{cellsLong, countsOf, portOf, portHolds, written}
 use Rattle.cells.specs.CodeLaws.{code-again}
 use Rattle.cells.specs.Codes.{stateOf}
-use Rattle.cells.specs.Laws.{Holds, holds-state, written-self}
+use Rattle.cells.specs.Laws.{holds-state, written-self}
 use Rattle.cells.specs.Pass.{stage, pass-none, pass-counts, pass-all}
 use Rattle.quick.specs.Quick.{signsOf, quickIn, quickly, quick-is-step}
 use Rattle.quick.specs.Sweep.{Small, signsBy, looked, isCounted, glanced, shown, enableNo, look-is, lookedAt, isMarked, lookedCells}
 use Rattle.quick.specs.declared.Glance.{Glance}
 use Rattle.quick.specs.declared.Glance.the-variants.{Counted, Whole}
 use Rattle.quick.specs.declared.Look.{Look}
-use Rattle.quick.specs.declared.Signs.{Signs}
 
 -- what the pass asks of a port's cells: a state that there is, an enable code that is not reserved, counters within bounds
 pub record Fair (l : List ℕ) (p : ℕ) : Type 0 where

@@ -4,7 +4,7 @@ use diagram::limits;
 use port::form::Counts;
 ghost use mathlib.Core.Path.{_≡_};
 ghost use Prim.Native.Nat.{_%_, _<_, _≤_};
-ghost use mathlib.Core.Bool.{cond};
+ghost use mathlib.Core.Bool.{cond, _||_};
 ghost use lib.Dec.{ltb};
 ghost use lib.ListN.{length, getD};
 ghost use Rattle.lists.specs.Every.{someBelow};
@@ -71,6 +71,16 @@ fn running(runs: bool, n: u16) -> u16
     }
 }
 
+// A mark where none of three holds. Tests are all bits or none here, and added up: joined as tests they would be made narrow and wide
+// again for each eight ports.
+fn mark_unless(a: bool, b: bool, c: bool) -> u16
+    ensures { λ r. ⌜ r ≡ cond ((a || b) || c) 0 65535 ⌝ }
+{
+    let two = std::num::wrapping_add_u16(pick(a, 65_535, 0), pick(b, 65_535, 0));
+    let three = std::num::wrapping_add_u16(two, pick(c, 65_535, 0));
+    pick(three == 0, 65_535, 0)
+}
+
 // Every counter is a choice and no state is branched on, so that a compiler looks at eight ports at once. A state's code stands beside
 // the enable bits: one comparison tests both.
 fn look_at(state: u16, control: u16, demand: u16, flags: u16, counts: Counts) -> Look
@@ -101,11 +111,7 @@ fn look_at(state: u16, control: u16, demand: u16, flags: u16, counts: Counts) ->
         overload: pick(shut, overload, counts.overload),
         no_load: pick(stays, gone, counts.no_load),
     };
-    let mark = pick(
-        shut | detects | backs | delays | classes | stands,
-        0,
-        65_535,
-    );
+    let mark = mark_unless(shut | detects, backs | delays, classes | stands);
     Look {
         counts: after,
         mark,

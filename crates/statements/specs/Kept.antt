@@ -23,7 +23,7 @@ use Rattle.boards.specs.Sharing.{tableAfter}
 use Rattle.boards.specs.Well.{after-well}
 use Rattle.table.specs.declared.form.Table.{Table}
 use Rattle.calls.specs.Calls.{coldPort, coldTable, withControl, unlatched, demanding}
-use Rattle.tick.specs.Digest.{digest}
+use Rattle.block.specs.Digest.{digest}
 use Rattle.tick.specs.Tick.{movedAt}
 use Rattle.table.specs.Form.{noPort, portAt, withPort}
 use Rattle.table.specs.Well.{Well, well-of, WellTable, table-of, table-test}

@@ -19,7 +19,7 @@ use Rattle.port.specs.declared.form.Port.{Port}
 use Rattle.port.specs.declared.form.State.{State}
 use Rattle.port.specs.States.{isIdle}
 use Rattle.calls.specs.Calls.{coldPort, coldTable, coldStart, withControl, controlRefusals, writeControl, unlatched, statusRefusals, statusAt, readStatus, levelOf, demanding, requestRefusals, request}
-use Rattle.tick.specs.Digest.{digest}
+use Rattle.block.specs.Digest.{digest}
 use Rattle.table.specs.Form.{noPort, portAt, withPort, done, refuse, tells, refuseStatus, refuseTick}
 use Rattle.statements.specs.Kept.{tick-well, controlled-well, unlatched-well, demanding-well, cold-well}
 use Rattle.table.specs.Laws.{well-count}

@@ -31,7 +31,7 @@ use Rattle.port.specs.declared.form.Port.{Port}
 use Rattle.port.specs.declared.form.Reading.{Reading}
 use Rattle.port.specs.declared.form.State.{State}
 use Rattle.port.specs.declared.form.State.the-variants.{Disabled, Idle, Detecting, Backoff, Classifying, PowerUp, PowerOn, ErrorDelay, TestMode, TestError}
-use Rattle.tick.specs.Digest.{detectionOf, classingOf, digest}
+use Rattle.block.specs.Digest.{detectionOf, classingOf, digest}
 use Rattle.statements.specs.History.{Shown, nothing, signature, both, isValid, isClass, showsSignature, givesClass, seen}
 
 -- what a port in a state must have shown

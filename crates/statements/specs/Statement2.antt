@@ -27,7 +27,7 @@ use Rattle.share.specs.Walk.{walked, isIn}
 use Rattle.share.specs.WalkLaws.{walk-keeps}
 use Rattle.words.specs.Status.{join}
 use Rattle.diagram.specs.Latched.{latches-told}
-use Rattle.tick.specs.Digest.{digest}
+use Rattle.block.specs.Digest.{digest}
 use Rattle.table.specs.Form.{portAt}
 use Rattle.boards.specs.MaskLaws.{bits-a, bits-b, past-a, past-b, closed-number}
 use Rattle.statements.specs.Kept.{tick-well}

@@ -25,7 +25,7 @@ use Rattle.diagram.specs.Step.{byState, step}
 use Rattle.share.specs.Share.{claims, before, met, sumWhere, down, keeps}
 use Rattle.calls.specs.Calls.{coldTable, coldStart, sameAlternative, writeControl, withControl}
 use Rattle.table.specs.Drawn.{draws, closedSum, closedAt}
-use Rattle.tick.specs.Digest.{digest}
+use Rattle.block.specs.Digest.{digest}
 use Rattle.table.specs.Form.{portAt, withPort, done}
 use Rattle.boards.specs.Sharing.{rankAt, claimAt, keptAt, settledAt, portAfter, tableAfter}
 use Rattle.boards.specs.Masks.{answered}

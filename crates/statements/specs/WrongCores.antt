@@ -28,7 +28,7 @@ use Rattle.port.specs.declared.form.Port.{Port}
 use Rattle.port.specs.declared.form.State.the-variants.{Classifying}
 use Rattle.share.specs.Share.{claims, before, met, sumWhere, down, keeps}
 use Rattle.calls.specs.Calls.{coldPort}
-use Rattle.tick.specs.Digest.{digest}
+use Rattle.block.specs.Digest.{digest}
 use Rattle.table.specs.Form.{portAt, zeroCounts}
 use Rattle.boards.specs.MaskLaws.{closed-number}
 use Rattle.boards.specs.Sharing.{rankAt, claimAt, keptAt}

@@ -1,6 +1,6 @@
 -- The refusals of a tick, judged in one number: 0 where none is given.
 -- Assumes nothing.
-use Prim.Native.Nat.{ℕ, _*_, _≤_, _<_}
+use Prim.Native.Nat.{ℕ, _*_, _≤_}
 use mathlib.Core.Path.{_≡_, refl, sym, _∙_, ap}
 use mathlib.Core.Bool.{Bool, true, false, cond, not, Bool·not-not}
 use mathlib.Core.List.{List, [], _∷_}
@@ -8,7 +8,7 @@ use native.Mathlib.Omega.{arith}
 use lib.Dec.{eqb, ltb}
 use lib.ListN.{length, replicate}
 use borrow.Author.Tests.{eqb-true, ltb-false}
-use Rattle.lists.specs.Every.{every, someBelow, nowhere}
+use Rattle.lists.specs.Every.{someBelow, nowhere}
 use Rattle.lists.specs.Ladder.{ladder}
 use Rattle.power.specs.Power.{tenths}
 use Rattle.reading.specs.Sample.{sampleAt, reservedFlags}
@@ -21,8 +21,9 @@ use Rattle.well.specs.Laws.{ill-cells, well-goes}
 use Rattle.boards.specs.Masks.{answered}
 use Rattle.boards.specs.Sharing.{tableAfter}
 use Rattle.tick.specs.OnCells.{tickOn}
-use Rattle.tick.specs.Passes.{flagsOfPort, flagsFine, flagLane, refusalOf, Ready}
-use Rattle.tick.specs.Tick.{movedAt, flagsReserved, tickRefusals, tick}
+use Rattle.block.specs.Flags.{flagsOfPort, flagsFine, flagLane}
+use Rattle.tick.specs.Passes.{refusalOf, Ready}
+use Rattle.tick.specs.Tick.{movedAt, flagsReserved, tick}
 
 -- the number, by the four tests
 abbrev by : Bool → Bool → Bool → Bool → ℕ

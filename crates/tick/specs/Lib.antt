@@ -1,10 +1,9 @@
-pub mod Digest
+pub mod FlagSigns
 pub mod Judging
 pub mod Moving
 pub mod OnCells
 pub mod Passes
 pub mod Settling
-pub mod Tally
 pub mod Tick
 pub mod Ticking
 pub mod Wells

@@ -13,7 +13,6 @@ use borrow.Author.Tests.{eqb-true}
 use Rattle.lists.specs.Every.{someBelow}
 use Rattle.lists.specs.Places.{Filled, side}
 use Rattle.port.specs.Form.{quietly}
-use Rattle.port.specs.declared.form.Moved.{Moved}
 use Rattle.port.specs.declared.form.Port.{Port}
 use Rattle.power.specs.Power.{forced}
 use Rattle.reading.specs.Sample.{sampleAt}
@@ -23,8 +22,9 @@ use Rattle.cells.specs.Cells.{cellsLong, portOf, written}
 use Rattle.cells.specs.Laws.{Holds, written-self, written-long, written-cong}
 use Rattle.cells.specs.Pass.{stage, stage-done, stage-left, pass-none, pass-all, pass-port, pass-field, pass-more, pass-kept}
 use Rattle.cells.specs.Writes.{withPortCells}
-use Rattle.tick.specs.Digest.{digest}
-use Rattle.tick.specs.Passes.{isSet, wholeMove, markedMove}
+use Rattle.block.specs.Digest.{digest}
+use Rattle.claims.specs.Claimed.{isSet}
+use Rattle.tick.specs.Passes.{wholeMove, markedMove}
 
 -- a pass over cells l that makes g of their ports
 module _ (n : ℕ) (g : ℕ → Port) (l : List ℕ) (few : n ≤ 48) (long : length l ≡ cellsLong) where

@@ -7,43 +7,33 @@ use mathlib.Core.List.{List}
 use lib.Dec.{ltb, leb, eqb}
 use lib.ListN.{length, getD, replicate}
 use Rattle.lists.specs.Bits.{one}
-use Rattle.lists.specs.Every.{every, someBelow}
+use Rattle.lists.specs.Every.{someBelow}
 use Rattle.lists.specs.Places.{tabulate}
 use Rattle.lists.specs.Total.{total}
-use Rattle.power.specs.Power.{zeroPower, forced, tenths}
+use Rattle.power.specs.Power.{forced, tenths}
 use Rattle.power.specs.declared.Power.{Power}
-use Rattle.reading.specs.Sample.{sampleAt, reservedFlags}
+use Rattle.reading.specs.Sample.{sampleAt}
 use Rattle.port.specs.Form.{quietly}
 use Rattle.port.specs.declared.form.Moved.{Moved}
 use Rattle.port.specs.declared.form.Port.{Port}
 use Rattle.diagram.specs.Step.{step}
-use Rattle.settling.specs.Claim.{rankIn, settledAs}
+use Rattle.settling.specs.Claim.{settledAs}
 use Rattle.share.specs.Given.{rankOf, demandOf}
 use Rattle.share.specs.Share.{noClaim, keeps}
 use Rattle.share.specs.declared.Claims.{Claims}
-use Rattle.table.specs.Drawn.{draws}
 use Rattle.table.specs.declared.form.Closed.{Closed}
 use Rattle.cells.specs.Cells.{countCell, portOf, tableOf, written, cellsWith}
 use Rattle.quick.specs.Sweep.{sweptCells, sweptLane, sweptLeft}
 use Rattle.well.specs.Judged.{wellCells}
 use Rattle.boards.specs.Masks.{answered}
 use Rattle.boards.specs.Sharing.{tableAfter}
-use Rattle.tick.specs.Digest.{digest}
+use Rattle.block.specs.Digest.{digest}
+use Rattle.block.specs.Flags.{flagsFine, flagLane}
+use Rattle.claims.specs.Claimed.{isSet, wants, ranksOn, demandsOn}
+use Rattle.tally.specs.Tally.{drawnOn}
 use Rattle.tick.specs.Tick.{movedAt}
 
 -- ---- the tests
-
--- a port's flags in the block
-unfoldable pub flagsOfPort : List ℕ → ℕ → ℕ
-flagsOfPort block p = sampleAt block (14 * p) .flags
-
--- no sample of the first n has reserved flags
-unfoldable pub flagsFine : ℕ → List ℕ → Bool
-flagsFine n block = every n (λ p. not (reservedFlags (flagsOfPort block p)))
-
--- a lane with the flags of the first n ports
-unfoldable pub flagLane : ℕ → List ℕ → List ℕ → List ℕ
-flagLane n block lane = tabulate 48 (λ p. cond (ltb p n) (flagsOfPort block p) (getD lane p 0))
 
 -- the number of the refusal, 0 if nothing is refused
 unfoldable pub refusalOf : Bool → ℕ → List ℕ → ℕ → ℕ
@@ -51,10 +41,6 @@ refusalOf well n block figure =
     cond well (cond (eqb (length block) (14 * n)) (cond (ltb 60000 figure) 4 (cond (flagsFine n block) 0 3)) 1) 13
 
 -- ---- the moves
-
--- a number of the lane that says yes
-abbrev pub isSet : ℕ → Bool
-isSet v = not (eqb v 0)
 
 -- classes that fit a byte, so that a port can be taken out of its cells
 abbrev pub Classes : ℕ → List ℕ → Type 0
@@ -76,18 +62,6 @@ unfoldable pub steppedLane : ℕ → List ℕ → List ℕ → List ℕ → List
 steppedLane n block l lane = tabulate 48 (λ p. cond (ltb p n) (one (markedMove (getD lane p 0) block l p .asks)) (getD lane p 0))
 
 -- ---- the sharing, of ports that have moved
-
--- what a port that asks would draw
-unfoldable pub wants : ℕ → List ℕ → ℕ → ℕ
-wants asks l p = cond (isSet asks) (portOf l p .demand .0) 0
-
--- the rank of each claim; a place past the count has none
-unfoldable pub ranksOn : ℕ → List ℕ → List ℕ → List ℕ
-ranksOn n lane l = tabulate 48 (λ p. cond (ltb p n) (rankIn (portOf l p .state) (portOf l p .control) (isSet (getD lane p 0))) noClaim)
-
--- and its demand
-unfoldable pub demandsOn : ℕ → List ℕ → List Power
-demandsOn n l = tabulate 48 (λ p. cond (ltb p n) (portOf l p .demand) zeroPower)
 
 -- the places that keep their claim
 unfoldable pub keptOn : List ℕ → List Power → ℕ → List Bool
@@ -128,10 +102,6 @@ askedOn l block lane = cond (sweptLeft l lane) (steppedLane (countCell l) block 
 unfoldable pub someAsk : List ℕ → List ℕ → List ℕ → Bool
 someAsk l block lane =
     cond (sweptLeft l lane) (someBelow (countCell l) (λ p. markedMove (getD (sweptLane l lane) p 0) block (sweptCells l lane) p .asks)) false
-
--- what the closed ports draw
-unfoldable pub drawnOn : ℕ → List ℕ → ℕ
-drawnOn n l = total n (λ p. draws (portOf l p))
 
 -- the cells after the sharing: it is left out where no port asks and what is closed fits
 unfoldable pub sharedOn : ℕ → List ℕ → Bool → ℕ → List ℕ → List ℕ

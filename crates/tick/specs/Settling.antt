@@ -4,18 +4,17 @@
 -- Assumes nothing.
 use Prim.Native.Nat.{ℕ, _+_, _≤_, _<_, zero-le}
 use mathlib.Core.Path.{_≡_, refl, sym, _∙_, ap, ap₂}
-use mathlib.Core.Bool.{Bool, true, false, cond, not, _&&_, true≢false}
+use mathlib.Core.Bool.{Bool, true, false, cond, _&&_, true≢false}
 use mathlib.Core.List.{List}
 use mathlib.Core.Logic.{⊎-elim}
 use native.Mathlib.Nat.{le-refl, le-trans, le-add-right, le-add-left}
 use native.Mathlib.Omega.{arith}
 use lib.Dec.{ltb, leb}
 use lib.ListN.{getD}
-use borrow.Author.Tests.{lt-ltb, le-ltb, le-leb, lt-leb, leb-true, leb-false}
+use borrow.Author.Tests.{lt-ltb, le-ltb, le-leb, lt-leb, leb-true}
 use Rattle.lists.specs.Places.{tabulate, getD-tabulate, tabulate-cong, side}
 use Rattle.lists.specs.Tests.{choice}
 use Rattle.lists.specs.Total.{total, total-cong, total-mono, total-plus, total-less}
-use Rattle.power.specs.Power.{zeroPower}
 use Rattle.power.specs.declared.Power.{Power}
 use Rattle.words.specs.Control.{priorityOf}
 use Rattle.port.specs.States.{closed}
@@ -33,7 +32,8 @@ use Rattle.table.specs.declared.form.Table.{Table}
 use Rattle.cells.specs.Cells.{portOf}
 use Rattle.boards.specs.Laws.{Opens, rank-here}
 use Rattle.boards.specs.Sharing.{rankAt, claimAt, keptAt, settledAt, portAfter}
-use Rattle.tick.specs.Passes.{isSet, wants, ranksOn, demandsOn, keptOn, settledBy, admittedBy, sharedBy}
+use Rattle.claims.specs.Claimed.{isSet, wants, ranksOn, demandsOn}
+use Rattle.tick.specs.Passes.{keptOn, settledBy, admittedBy, sharedBy}
 
 -- an asker has a claim
 asks-rank : (before : State) (m : Moved) → m .asks ≡ true → rank before m < noClaim

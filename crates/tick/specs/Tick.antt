@@ -14,7 +14,7 @@ use Rattle.boards.specs.Masks.{answered}
 use Rattle.boards.specs.Sharing.{tableAfter}
 use Rattle.table.specs.declared.form.Table.{Table}
 use Rattle.table.specs.declared.form.Ticked.{Ticked}
-use Rattle.tick.specs.Digest.{digest}
+use Rattle.block.specs.Digest.{digest}
 use Rattle.table.specs.Form.{portAt, refuseTick}
 use Rattle.table.specs.WellMade.{illMade}
 

@@ -3,13 +3,13 @@
 -- Assumes nothing.
 use Prim.Native.Nat.{ℕ, _+_, _*_, _/_, _%_, _≤_, _<_, _^_}
 use mathlib.Core.Path.{_≡_, refl, sym, _∙_, ap, ap₂}
-use mathlib.Core.Bool.{Bool, true, false, cond, not, _&&_, _||_, or-false, false≢true, true≢false}
+use mathlib.Core.Bool.{Bool, true, false, cond, not, _&&_, _||_}
 use mathlib.Core.List.{List}
 use mathlib.Core.Logic.{⊎-elim}
 use native.Mathlib.Nat.{div-one, le-trans}
 use native.Mathlib.Omega.{arith}
 use lib.Dec.{eqb, leb, ltb}
-use lib.ListN.{length, getD, set, replicate, length-set, length-replicate, getD-replicate}
+use lib.ListN.{length, getD, set, length-set, getD-replicate}
 use borrow.Author.Tests.{lt-ltb, le-ltb, le-leb, lt-leb, eq-eqb, ne-eqb, not-true, ltb-false, leb-false, eqb-false}
 use Rattle.lists.specs.Bits.{bit, field, above, one, field-low}
 use Rattle.lists.specs.Every.{every-at, someBelow, nowhere}
@@ -21,7 +21,6 @@ use Rattle.power.specs.declared.Power.{Power}
 use Rattle.reading.specs.Sample.{sampleAt, reservedFlags, flagsOf}
 use Rattle.words.specs.Control.{refused}
 use Rattle.port.specs.Form.{quietly}
-use Rattle.port.specs.States.{closed}
 use Rattle.port.specs.declared.form.Moved.{Moved}
 use Rattle.port.specs.declared.form.Port.{Port}
 use Rattle.diagram.specs.Open.{open-stays}
@@ -29,20 +28,22 @@ use Rattle.diagram.specs.Step.{step}
 use Rattle.share.specs.Share.{claimedSum}
 use Rattle.table.specs.Drawn.{draws}
 use Rattle.table.specs.Form.{portAt}
-use Rattle.table.specs.Well.{Well}
 use Rattle.table.specs.declared.form.Table.{Table}
-use Rattle.cells.specs.Cells.{cellsLong, countCell, countsOf, portOf, tableOf, portHolds, written, cellsWith}
+use Rattle.cells.specs.Cells.{cellsLong, countCell, portOf, tableOf, portHolds, written, cellsWith}
 use Rattle.cells.specs.Laws.{Holds, table-at, written-long, written-head, written-cong, written-again, written-set, port-written}
 use Rattle.cells.specs.Round.{holds-written}
 use Rattle.quick.specs.Quick.{signsOf}
-use Rattle.quick.specs.Sweep.{Small, signsBy, lookedAt, isMarked, lookedCells, lookedLane, sweepable, sweptCells, sweptLane, sweptLeft, mark-bits, bits-some}
+use Rattle.quick.specs.Sweep.{signsBy, lookedAt, isMarked, lookedLane, sweepable, sweptCells, sweptLane, sweptLeft}
 use Rattle.quick.specs.Swept.{Fair, swept, looked-written, unmarked-moves, marked-stays}
-use Rattle.quick.specs.declared.Signs.{Signs}
 use Rattle.well.specs.Laws.{WellCells, cells-of}
 use Rattle.boards.specs.Laws.{Opens, count-after, supply-after, port-after-at}
 use Rattle.boards.specs.Sharing.{rankAt, claimAt, portAfter, tableAfter}
-use Rattle.tick.specs.Digest.{digest, signsIn, signs-in}
-use Rattle.tick.specs.Passes.{Classes, isSet, flagsOfPort, flagsFine, flagLane, wholeMove, markedMove, steppedPort, steppedLane, Ready, movedOn, askedOn, someAsk, sharedBy, drawnOn, sharedOn, movedCells}
+use Rattle.block.specs.Digest.{digest}
+use Rattle.tick.specs.FlagSigns.{signsIn, signs-in}
+use Rattle.block.specs.Flags.{flagsOfPort, flagsFine, flagLane}
+use Rattle.claims.specs.Claimed.{isSet}
+use Rattle.tally.specs.Tally.{drawnOn}
+use Rattle.tick.specs.Passes.{Classes, wholeMove, markedMove, steppedPort, steppedLane, Ready, movedOn, askedOn, someAsk, sharedBy, sharedOn, movedCells}
 use Rattle.tick.specs.Settling.{claimed-at-most, quiet-is, shared-is}
 use Rattle.tick.specs.Tick.{movedAt}
 use Rattle.tick.specs.Wells.{digest-well, step-well}

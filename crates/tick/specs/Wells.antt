@@ -28,7 +28,7 @@ use Rattle.port.specs.declared.form.Port.{Port}
 use Rattle.port.specs.declared.form.Reading.{Reading}
 use Rattle.port.specs.declared.form.State.{State}
 use Rattle.port.specs.declared.form.State.the-variants.{Disabled, Idle, Detecting, Backoff, Classifying, PowerUp, PowerOn, ErrorDelay, TestMode, TestError}
-use Rattle.tick.specs.Digest.{classingOf, digest}
+use Rattle.block.specs.Digest.{classingOf, digest}
 use Rattle.table.specs.Well.{WellCounts, Well, up-small, during-small, with-counts-well, with-latches-well, enter-well}
 
 -- a class that was read is a class, with a budget that a port may have

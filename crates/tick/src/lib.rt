@@ -1,45 +1,28 @@
 // The tick on a table that the caller lends: refusals first, and then a part that cannot refuse and changes the cells in place.
-mod block;
-mod digest;
 mod ports;
 mod sharing;
 mod steps;
-mod tally;
 
-use crate::block::flags_into;
 use crate::sharing::share_out;
 use crate::steps::steps;
-use crate::tally::drawn;
-use crate::tally::masks;
-use crate::tally::sides;
+use block::flags_into;
 use power::Power;
 use quick::sweep;
 use table::form::Closed;
+use tally::closed_ports;
+use tally::drawn;
 use well::well_head;
 use well::well_made;
 ghost use mathlib.Core.Path.{_≡_};
-ghost use mathlib.Core.Bool.{true, _&&_};
 ghost use Prim.Native.Nat.{_*_, _≤_};
-ghost use lib.Dec.{eqb};
 ghost use lib.ListN.{length};
 ghost use Rattle.cells.specs.Cells.{countCell};
 ghost use Rattle.cells.specs.Laws.{Holds};
 ghost use Rattle.cells.specs.Lent.{cellsTicked};
 ghost use Rattle.well.specs.Judged.{wellCells};
 ghost use Rattle.tick.specs.OnCells.{tickOn};
-ghost use Rattle.tick.specs.Passes.{Classes, flagsFine, refusalOf, flagLane, Ready, someAsk, movedOn, askedOn, sharedOn, movedCells, movedAnswer};
-
-// The flags of every port into the lane, of a block that is as long as it should be.
-fn flags_if(block: &[u8], n: usize, lane: &mut [u16]) -> bool
-    requires { ⌜ (n ≤ 48) × (length (now lane) ≡ 48) ⌝ }
-    ensures { λ r. ⌜ r ≡ (eqb (length (now (block .entry))) (14 * n) && flagsFine n (now (block .entry))) ⌝ }
-    ensures { λ r. ⌜ (r ≡ true → now (lane .exit) ≡ flagLane n (now (block .entry)) (now (lane .entry))) ⌝ }
-{
-    if block.len() != 14 * n {
-        return false;
-    }
-    flags_into(block, n, lane)
-}
+ghost use Rattle.block.specs.Flags.{flagLane};
+ghost use Rattle.tick.specs.Passes.{Classes, refusalOf, Ready, someAsk, movedOn, askedOn, sharedOn, movedCells, movedAnswer};
 
 // The number of the refusal, 0 if nothing is refused: then the lane has the flags of every port. They are read before the ports are
 // tested, though looked at after: what was just written would have to be waited for.
@@ -52,7 +35,7 @@ fn refusal(cells: &[u16], block: &[u8], figure: u64, lane: &mut [u16]) -> u8
         return 13;
     }
     let n = cells[0] as usize;
-    let clean = flags_if(block, n, lane);
+    let clean = flags_into(block, n, lane);
     if !well_made(cells) {
         return 13;
     }
@@ -100,8 +83,7 @@ fn moved(cells: &mut [u16], block: &[u8], supply: u16, lane: &mut [u16]) -> Clos
     let asks = move_all(cells, n, block, lane);
     share_all(cells, n, lane, asks, supply);
     cells[1] = supply;
-    sides(cells, n, lane);
-    masks(lane)
+    closed_ports(cells, n, lane)
 }
 
 pub fn tick(cells: &mut [u16], block: &[u8], figure: u64) -> Closed

@@ -1,75 +1,22 @@
 // The supply is shared among the ports that have moved, and every port settles where it stands.
 use crate::ports::port_at;
 use crate::ports::put_port;
-use crate::tally::pick;
-use cells::state_of;
+use claims::claims_of;
+use claims::wanted;
 use power::Power;
-use settling::rank_in;
 use settling::settled_port;
-use share::Claims;
 ghost use mathlib.Core.Path.{_≡_};
-ghost use mathlib.Core.Bool.{true, false, cond};
-ghost use Prim.Native.Nat.{_+_, _*_, _<_, _≤_, _^_};
+ghost use mathlib.Core.Bool.{true, cond};
+ghost use Prim.Native.Nat.{_+_, _*_, _<_, _≤_};
 ghost use lib.Dec.{leb};
 ghost use lib.ListN.{length, getD};
-ghost use Rattle.lists.specs.Total.{total};
 ghost use Rattle.settling.specs.Claim.{settlingChanges, settledAs};
 ghost use Rattle.share.specs.Share.{noClaim};
 ghost use Rattle.cells.specs.Cells.{portOf, written};
 ghost use Rattle.cells.specs.Laws.{Holds};
 ghost use Rattle.cells.specs.Writes.{withPortCells};
-ghost use Rattle.tick.specs.Passes.{Classes, isSet, wants, ranksOn, demandsOn, settledBy, admittedBy, sharedBy};
-
-fn wants_at(cells: &[u16], p: usize, asks: u16) -> u32
-    requires { ⌜ (length (now cells) ≡ 728) × (p < 48) ⌝ }
-    ensures { λ r. ⌜ (r ≡ wants asks (now (cells .entry)) p) × (r < 2 ^ 16) ⌝ }
-{
-    pick(asks != 0, cells[104 + p], 0) as u32
-}
-
-// The demands of the ports that ask.
-fn wanted(cells: &[u16], n: usize, lane: &[u16]) -> u32
-    requires { ⌜ (length (now cells) ≡ 728) × (n ≤ 48) × (length (now lane) ≡ 48) ⌝ }
-    ensures { λ r. ⌜ (r ≡ total n (λ p. wants (getD (now (lane .entry)) p 0) (now (cells .entry)) p)) × (r ≤ n * 65535) ⌝ }
-{
-    let mut sum = 0u32;
-    let mut p = 0;
-    while p < n {
-        sum = sum + wants_at(cells, p, lane[p]);
-        p += 1;
-    }
-    sum
-}
-
-// The rank of each place's claim.
-fn ranks_of(cells: &[u16], n: usize, lane: &[u16]) -> [u8; 48]
-    requires { ⌜ (length (now cells) ≡ 728) × (n ≤ 48) × (length (now lane) ≡ 48) ⌝ }
-    ensures { λ r. ⌜ r ≡ ranksOn n (now (lane .entry)) (now (cells .entry)) ⌝ }
-{
-    let mut ranks = [share::NO_CLAIM; 48];
-    let mut p = 0;
-    while p < n {
-        let rank = rank_in(state_of(cells[8 + p]), cells[56 + p], lane[p] != 0);
-        ranks[p] = rank;
-        p += 1;
-    }
-    ranks
-}
-
-fn demands_of(cells: &[u16], n: usize) -> [Power; 48]
-    requires { ⌜ (length (now cells) ≡ 728) × (n ≤ 48) ⌝ }
-    ensures { λ r. ⌜ r ≡ demandsOn n (now (cells .entry)) ⌝ }
-{
-    let zero = Power::ZERO;
-    let mut demands = [zero; 48];
-    let mut p = 0;
-    while p < n {
-        let demand = Power(cells[104 + p]);
-        demands[p] = demand;
-        p += 1;
-    }
-    demands
-}
+ghost use Rattle.claims.specs.Claimed.{isSet};
+ghost use Rattle.tick.specs.Passes.{Classes, settledBy, admittedBy, sharedBy};
 
 // Most ports stay as they moved: those without a claim, and those that are closed and kept.
 fn changes(rank: u8, kept: bool) -> bool
@@ -122,17 +69,26 @@ fn admit(cells: &mut [u16], n: usize, lane: &[u16])
     }
 }
 
+// Nothing is added up that might not fit.
+fn all_fit(drawn: u32, wanted: u32, supply: u32) -> bool
+    ensures { λ r. ⌜ r ≡ leb (drawn + wanted) supply ⌝ }
+{
+    if supply < drawn {
+        return false;
+    }
+    wanted <= supply - drawn
+}
+
 // The lane has a number other than 0 for each port that asks. Where all claims fit, nothing has to be ranked.
 pub fn share_out(cells: &mut [u16], n: usize, lane: &[u16], drawn: u32, supply: u16)
-    requires { ⌜ (length (now cells) ≡ 728) × (n ≤ 48) × (length (now lane) ≡ 48) × Holds n (now cells) × Classes n (now cells) × (drawn ≤ n * 65535) ⌝ }
+    requires { ⌜ (length (now cells) ≡ 728) × (n ≤ 48) × (length (now lane) ≡ 48) × Holds n (now cells) × Classes n (now cells) ⌝ }
     ensures { λ _. ⌜ now (cells .exit) ≡ written n (sharedBy n (now (lane .entry)) drawn supply (now (cells .entry))) (now (cells .entry)) ⌝ }
 {
-    if drawn + wanted(cells, n, lane) <= supply as u32 {
+    if all_fit(drawn, wanted(cells, n, lane), supply as u32) {
         admit(cells, n, lane);
     } else {
-        let ranks = ranks_of(cells, n, lane);
-        let demands = demands_of(cells, n);
-        let claims = Claims { ranks, demands };
+        let claims = claims_of(cells, n, lane);
+        let ranks = claims.ranks;
         settle_all(cells, n, ranks, share::kept(claims, Power(supply)));
     }
 }

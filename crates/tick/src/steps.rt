@@ -1,21 +1,43 @@
 // The whole step of the ports that the quick pass has marked.
-use crate::block::sample;
-use crate::digest::digest_of;
 use crate::ports::port_at;
 use crate::ports::put_port;
+use block::digest::digest_of;
 use diagram::step;
 use power::Power;
+use reading::sample::Sample;
+use reading::sample::Sampled;
+use reading::sample::sample_of;
 ghost use mathlib.Core.Path.{_≡_};
-ghost use mathlib.Core.Bool.{true, false, cond, not, _&&_};
+ghost use mathlib.Core.Bool.{true, false, cond};
 ghost use Prim.Native.Nat.{ℕ, _+_, _*_, _/_, _<_, _≤_};
-ghost use lib.Dec.{eqb};
 ghost use lib.ListN.{length, getD};
 ghost use Rattle.lists.specs.Bits.{one};
 ghost use Rattle.lists.specs.Every.{someBelow};
-ghost use Rattle.cells.specs.Cells.{portOf, written};
+ghost use Rattle.reading.specs.Sample.{sampleAt};
+ghost use Rattle.cells.specs.Cells.{written};
 ghost use Rattle.cells.specs.Laws.{Holds};
 ghost use Rattle.cells.specs.Writes.{withPortCells};
-ghost use Rattle.tick.specs.Passes.{Classes, isSet, wholeMove, markedMove, steppedPort, steppedLane};
+ghost use Rattle.claims.specs.Claimed.{isSet};
+ghost use Rattle.tick.specs.Passes.{Classes, wholeMove, markedMove, steppedPort, steppedLane};
+
+// The sample of a port that the block has.
+fn sample(block: &[u8], port: usize) -> Sample
+    requires { ⌜ port < length (now block) / 14 ⌝ }
+    ensures { λ r. ⌜ r ≡ sampleAt (now (block .entry)) (14 * port) ⌝ }
+{
+    match sample_of(block, port) {
+        Sampled::Is(s) => s,
+        Sampled::Cut => Sample {
+            v1: 0,
+            v2: 0,
+            i1: 0,
+            i2: 0,
+            c1: 0,
+            c2: 0,
+            flags: 0,
+        },
+    }
+}
 
 // The port at a place takes its whole step if it is marked. Does it ask?
 fn stepped(cells: &mut [u16], block: &[u8], p: usize, mark: u16) -> bool

@@ -3,12 +3,13 @@
 use Prim.Native.Nat.{ℕ, zero, suc, _+_, _≤_, _<_, max}
 use mathlib.Core.Path.{_≡_, refl, sym, _∙_, ap}
 use mathlib.Core.Bool.{Bool, true, false, cond, _&&_, and-true, and-false}
-use mathlib.Core.List.{List, [], _∷_}
+use mathlib.Core.List.{List, _∷_}
 use mathlib.Core.Logic.{⊎-elim}
 use native.Mathlib.Omega.{arith}
 use lib.Dec.{eqb, leb}
 use lib.ListN.{length, getD}
-use borrow.Author.Tests.{le-leb, lt-leb, leb-true, eqb-true, ne-eqb}
+use borrow.Author.Tests.{le-leb, lt-leb, leb-true, eqb-true, eqb-false, eq-eqb, ne-eqb}
+use Rattle.lists.specs.Bits.{one}
 use Rattle.lists.specs.Every.{every, every-at, every-cong}
 use Rattle.lists.specs.Ladder.{ladder}
 use Rattle.lists.specs.Places.{side}
@@ -38,10 +39,14 @@ max-small a b k =
     (side k b))
     (side k a)
 
--- there is no fault so long as there was none and none is added
-pub no-fault : (n : ℕ) (b : Bool) → eqb (n + cond b 0 1) 0 ≡ (eqb n 0 && b)
-no-fault n true = let e : n + 0 ≡ n = omega arith in ap (λ (k : ℕ). eqb k 0) e ∙ sym (and-true (eqb n 0))
-no-fault n false = ne-eqb (n + 1) 0 (λ e. omega arith) ∙ sym (and-false (eqb n 0))
+-- all are fine so long as all were and one more is
+pub all-fine : (k n : ℕ) (b : Bool) → k ≤ n → eqb (k + one b) (n + 1) ≡ (eqb k n && b)
+all-fine k n true h = same (eqb k n) refl ∙ sym (and-true (eqb k n))
+  where
+    same : (t : Bool) → eqb k n ≡ t → eqb (k + 1) (n + 1) ≡ t
+    same true e = eq-eqb (k + 1) (n + 1) (ap (λ (m : ℕ). m + 1) (eqb-true k n e))
+    same false e = ne-eqb (k + 1) (n + 1) (λ f. eqb-false k n e (omega arith))
+all-fine k n false h = ne-eqb (k + 0) (n + 1) (λ e. omega arith) ∙ sym (and-false (eqb k n))
 
 four : (a b c d : Bool) → ((a && b) && (c && d)) ≡ ((a && c) && (b && d))
 four true true c d = refl

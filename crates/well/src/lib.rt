@@ -3,10 +3,11 @@
 use power::Power;
 use reading::class::BUDGETS;
 ghost use mathlib.Core.Path.{_≡_};
-ghost use mathlib.Core.Bool.{cond, not};
+ghost use mathlib.Core.Bool.{not};
 ghost use Prim.Native.Nat.{_<_, _≤_, max};
 ghost use lib.Dec.{leb};
 ghost use lib.ListN.{length};
+ghost use Rattle.lists.specs.Bits.{one};
 ghost use Rattle.power.specs.Power.{tenths};
 ghost use Rattle.reading.specs.Class.{isDemand};
 ghost use Rattle.words.specs.Control.{refused};
@@ -69,11 +70,11 @@ fn port_fine(cells: &[u16], p: usize) -> bool
         & (cells[200 + p] < 64)
 }
 
-// Faults are numbers, which add up eight at a time; a flag would be one after the other.
-fn fault(fine: bool) -> u16
-    ensures { λ r. ⌜ (r ≡ cond fine 0 1) × (r ≤ 1) ⌝ }
+// What is fine is a number, which adds up eight at a time; a flag would be one after the other.
+fn counts(fine: bool) -> u16
+    ensures { λ r. ⌜ (r ≡ one fine) × (r ≤ 1) ⌝ }
 {
-    if fine { 0 } else { 1 }
+    if fine { 1 } else { 0 }
 }
 
 fn head_fine(count: u16, supply: u16) -> bool
@@ -101,11 +102,11 @@ pub fn well_made(cells: &[u16]) -> bool
         return false;
     }
     let n = cells[0] as usize;
-    let mut faults = 0u16;
+    let mut fine = 0u16;
     let mut p = 0;
     while p < n {
-        faults = faults + fault(port_fine(cells, p));
+        fine = fine + counts(port_fine(cells, p));
         p += 1;
     }
-    faults == 0
+    fine as usize == n
 }

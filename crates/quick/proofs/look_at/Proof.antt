@@ -58,13 +58,13 @@ pick-requires-3 : tie.Need-pick-requires-3
 pick-requires-3 c κs = search needs
 
 -- src/lib.rt:100:9
-pick-requires-4 : tie.Need-pick-requires-4
-pick-requires-4 c κs = search needs
+mark-unless-requires : tie.Need-mark-unless-requires
+mark-unless-requires c κs = search needs
 
 -- src/lib.rt:72:1
 returns : tie.Need-returns
 unfolding looked signsBy
-returns c = simp (c .pick4 .ensures, c .before .pick3 .ensures, c .before .before .pick2 .ensures, c .before .before .before .pick .ensures, c .before .before .before .before .counted4 .ensures, c .before .before .before .before .before .counted3 .ensures, c .before .before .before .before .before .before .counted2 .ensures, c .before .before .before .before .before .before .before .counted .ensures, c .before .before .before .before .before .before .before .before .before .before .before .before .running3 .ensures, c .before .before .before .before .before .before .before .before .before .before .before .before .before .running2 .ensures, c .before .before .before .before .before .before .before .before .before .before .before .before .before .before .running .ensures, c .before .before .before .before .before .before .before .before .before .before .before .before .before .before .before .wrapping-add-u16 .ensures)
+returns c = simp (c .mark-unless .ensures, c .before .pick3 .ensures, c .before .before .pick2 .ensures, c .before .before .before .pick .ensures, c .before .before .before .before .counted4 .ensures, c .before .before .before .before .before .counted3 .ensures, c .before .before .before .before .before .before .counted2 .ensures, c .before .before .before .before .before .before .before .counted .ensures, c .before .before .before .before .before .before .before .before .before .before .before .before .running3 .ensures, c .before .before .before .before .before .before .before .before .before .before .before .before .before .running2 .ensures, c .before .before .before .before .before .before .before .before .before .before .before .before .before .before .running .ensures, c .before .before .before .before .before .before .before .before .before .before .before .before .before .before .before .wrapping-add-u16 .ensures)
 
 pub look-at-spec : {M : Type 1} → statement M
 look-at-spec =
@@ -82,5 +82,5 @@ look-at-spec =
     pick-requires
     pick-requires-2
     pick-requires-3
-    pick-requires-4
+    mark-unless-requires
     returns)

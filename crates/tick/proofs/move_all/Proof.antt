@@ -5,12 +5,12 @@ use mathlib.Core.Path.{_≡_, sym, _∙_, ap, ap₂}
 use mathlib.Core.Bool.{true, false}
 use mathlib.Core.List.{List}
 use native.Mathlib.Omega.{arith}
-use lib.ListN.{length, getD}
+use lib.ListN.{getD}
 use borrow.Author.Needs.{needs}
 use borrow.Author.Tests.{not-true, not-false}
 use denote.Ref.{now}
 use Rattle.lists.specs.Every.{someBelow}
-use Rattle.cells.specs.Cells.{countCell, written}
+use Rattle.cells.specs.Cells.{written}
 use Rattle.quick.specs.Sweep.{sweptCells, sweptLane, sweptLeft}
 use Rattle.well.specs.Laws.{cells-of}
 use Rattle.tick.specs.Passes.{markedMove, steppedPort, steppedLane, someAsk, movedOn, askedOn}

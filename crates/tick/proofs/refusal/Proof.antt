@@ -3,9 +3,8 @@
 use mathlib.Core.Path.{_≡_, sym, _∙_, ap}
 use mathlib.Core.Bool.{Bool, true, false, _&&_}
 use mathlib.Core.List.{List}
-use Prim.Native.Nat.{ℕ, _*_}
+use Prim.Native.Nat.{ℕ}
 use native.Mathlib.Omega.{arith}
-use lib.ListN.{length}
 use borrow.Author.Needs.{needs}
 use borrow.Author.Tests.{not-true, not-false, eq-eqb, ne-eqb, lt-ltb, le-ltb}
 use denote.Ref.{now}
@@ -13,7 +12,8 @@ use Rattle.lists.specs.Every.{every}
 use Rattle.cells.specs.Cells.{countCell}
 use Rattle.well.specs.Judged.{headCells, wellCells, portFine}
 use Rattle.well.specs.Laws.{well-cells, head-long, head-count}
-use Rattle.tick.specs.Passes.{refusalOf, flagsFine}
+use Rattle.block.specs.Flags.{flagsFine, fit-clean, fit-laid}
+use Rattle.tick.specs.Passes.{refusalOf}
 use Rattle.tick.proofs.refusal.Statement.{statement}
 use Rattle.tick.proofs.refusal.Tie as tie
 
@@ -32,7 +32,7 @@ refusal-spec =
     (simp e, λ z. absurd (omega arith)))
     (λ c. omega (arith, head-long (now (c .before .before .before .before .before .before .args .cells)) (sym (c .before .before .well-head .ensures) ∙ not-false _ (c .before .if1 .left))))
     (λ c. omega (arith, head-count (now (c .before .before .before .before .before .before .args .cells)) (sym (c .before .before .well-head .ensures) ∙ not-false _ (c .before .if1 .left))))
-    (λ c κs. (head-count (now (c .before .before .before .before .before .before .before .args .cells)) (sym (c .before .before .before .well-head .ensures) ∙ not-false _ (c .before .before .if1 .left)), c .before .before .before .before .before .before .before .pre))
+    (λ c κs. search needs)
     (λ c κs. search needs)
     (λ c. search needs)
     (λ c.
@@ -50,17 +50,21 @@ refusal-spec =
     (simp (e, eq-eqb _ _ (c .before .if3 .left), lt-ltb _ _ (c .if4 .taken)), λ z. absurd (omega arith)))
     (λ c. search needs)
     (λ c.
-    let a = c .before .before .before .before .before .before .before .before .before .before .before .before .before .before .before .args in
+    let s = c .before .before .before .before .before .before .before .before .before .before .before .before .before .before .before in
+    let a = s .args in
     let e = sym (c .before .before .before .before .well-made .ensures) ∙ not-false _ (c .before .before .before .if2 .left) in
     let long = eq-eqb _ _ (c .before .before .if3 .left) in
-    let f : flagsFine (countCell (now (a .cells))) (now (a .block)) ≡ true =
-    ap (λ (b : Bool). b && flagsFine (countCell (now (a .cells))) (now (a .block))) (sym long) ∙ sym (c .before .before .before .before .before .before .before .flags-if .ensures .0) ∙ c .if5 .taken in
-    (simp (e, long, le-ltb _ _ (c .before .if4 .left), f), λ z. c .before .before .before .before .before .before .before .flags-if .ensures .1 (c .if5 .taken)))
+    let few = head-count (now (a .cells)) (sym (c .before .before .before .before .before .before .before .before .before .before .before .well-head .ensures) ∙ not-false _ (c .before .before .before .before .before .before .before .before .before .before .if1 .left)) in
+    let read = c .before .before .before .before .before .before .before .flags-into .ensures in
+    let f : flagsFine (countCell (now (a .cells))) (now (a .block)) ≡ true = sym (fit-clean _ _ (now (a .lane)) few (c .before .before .if3 .left) (s .pre)) ∙ sym (read .0) ∙ c .if5 .taken in
+    (simp (e, long, le-ltb _ _ (c .before .if4 .left), f), λ z. read .1 ∙ fit-laid _ _ (now (a .lane)) few (c .before .before .if3 .left) (s .pre)))
     (λ c. search needs)
     (λ c.
-    let a = c .before .before .before .before .before .before .before .before .before .before .before .before .before .before .before .args in
+    let s = c .before .before .before .before .before .before .before .before .before .before .before .before .before .before .before in
+    let a = s .args in
     let e = sym (c .before .before .before .before .well-made .ensures) ∙ not-false _ (c .before .before .before .if2 .left) in
     let long = eq-eqb _ _ (c .before .before .if3 .left) in
-    let f : flagsFine (countCell (now (a .cells))) (now (a .block)) ≡ false =
-    ap (λ (b : Bool). b && flagsFine (countCell (now (a .cells))) (now (a .block))) (sym long) ∙ sym (c .before .before .before .before .before .before .before .flags-if .ensures .0) ∙ c .if5 .left in
+    let few = head-count (now (a .cells)) (sym (c .before .before .before .before .before .before .before .before .before .before .before .well-head .ensures) ∙ not-false _ (c .before .before .before .before .before .before .before .before .before .before .if1 .left)) in
+    let read = c .before .before .before .before .before .before .before .flags-into .ensures in
+    let f : flagsFine (countCell (now (a .cells))) (now (a .block)) ≡ false = sym (fit-clean _ _ (now (a .lane)) few (c .before .before .if3 .left) (s .pre)) ∙ sym (read .0) ∙ c .if5 .left in
     (simp (e, long, le-ltb _ _ (c .before .if4 .left), f), λ z. absurd (omega arith))))

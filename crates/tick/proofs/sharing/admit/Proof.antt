@@ -1,12 +1,11 @@
 -- `admit`: the askers below p have entered their states, in place.
 -- Assumes nothing.
-use Prim.Native.Nat.{ℕ, _+_, _-_, _≤_, _<_}
+use Prim.Native.Nat.{ℕ, _-_, _≤_}
 use mathlib.Core.Path.{_≡_, refl, sym, _∙_, ap}
-use mathlib.Core.Bool.{Bool, true, false, cond}
-use mathlib.Core.List.{List}
+use mathlib.Core.Bool.{true, cond}
 use native.Mathlib.Nat.{le-antisymm}
 use native.Mathlib.Omega.{arith}
-use lib.ListN.{length, getD}
+use lib.ListN.{getD}
 use borrow.Author.Needs.{needs}
 use denote.Ref.{now}
 use Rattle.cells.specs.Cells.{portOf, written}
@@ -15,7 +14,8 @@ use Rattle.cells.specs.Writes.{withPortCells}
 use Rattle.settling.specs.Claim.{settlingChanges, settledAs}
 use Rattle.tick.specs.Moving.{come-none, come-all, come-long, come-class, come-settled}
 use Rattle.share.specs.Share.{noClaim}
-use Rattle.tick.specs.Passes.{isSet, admittedBy}
+use Rattle.claims.specs.Claimed.{isSet}
+use Rattle.tick.specs.Passes.{admittedBy}
 use Rattle.tick.proofs.sharing.admit.Statement.{statement}
 use Rattle.tick.proofs.sharing.admit.Tie as tie
 

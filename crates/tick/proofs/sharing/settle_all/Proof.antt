@@ -1,18 +1,14 @@
 -- `settle_all`: the ports below p have settled, in place.
 -- Assumes nothing.
-use Prim.Native.Nat.{ℕ, _+_, _-_, _≤_, _<_}
-use mathlib.Core.Path.{_≡_, refl, sym, _∙_, ap}
-use mathlib.Core.Bool.{Bool, true, false, cond}
-use mathlib.Core.List.{List}
+use Prim.Native.Nat.{_-_, _≤_}
+use mathlib.Core.Path.{_≡_, refl, sym, _∙_}
+use mathlib.Core.Bool.{false}
 use native.Mathlib.Nat.{le-antisymm}
 use native.Mathlib.Omega.{arith}
-use lib.ListN.{length, getD}
-use borrow.Author.Needs.{needs}
+use lib.ListN.{getD}
 use denote.Ref.{now}
 use Rattle.cells.specs.Cells.{portOf, written}
 use Rattle.cells.specs.Pass.{stage}
-use Rattle.cells.specs.Writes.{withPortCells}
-use Rattle.settling.specs.Claim.{settlingChanges, settledAs}
 use Rattle.tick.specs.Moving.{come-none, come-all, come-long, come-class, come-settled}
 use Rattle.tick.specs.Passes.{settledBy}
 use Rattle.tick.proofs.sharing.settle_all.Statement.{statement}

@@ -2,7 +2,6 @@
 -- Assumes nothing.
 use mathlib.Core.Bool.{false≢true}
 use native.Mathlib.Omega.{arith}
-use borrow.Author.Needs.{needs}
 use denote.Ref.{now}
 use Rattle.tick.specs.Moving.{eight-clear}
 use Rattle.tick.proofs.steps.clear_ahead.Statement.{statement}

@@ -1,17 +1,14 @@
 -- `stepped` leaves a port without a mark as it is, and puts any other back after its whole step.
 -- Assumes nothing.
-use Prim.Native.Nat.{_*_}
 use mathlib.Core.Path.{_≡_, _∙_, ap, ap₂}
 use borrow.Author.Needs.{needs}
 use borrow.Author.Tests.{eq-eqb, ne-eqb}
 use denote.Ref.{now}
 use Rattle.power.specs.Power.{forced}
-use Rattle.reading.specs.Sample.{sampleAt}
 use Rattle.port.specs.declared.form.Moved.{Moved}
 use Rattle.diagram.specs.Step.{step}
-use Rattle.cells.specs.Cells.{portOf}
 use Rattle.cells.specs.Writes.{withPortCells}
-use Rattle.tick.specs.Digest.{digest}
+use Rattle.block.specs.Digest.{digest}
 use Rattle.tick.specs.Passes.{wholeMove, markedMove}
 use Rattle.tick.proofs.steps.stepped.Statement.{statement}
 use Rattle.tick.proofs.steps.stepped.Tie as tie

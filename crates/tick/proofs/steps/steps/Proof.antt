@@ -1,13 +1,13 @@
 -- `steps`: the ports below p have taken their step, and the lane has a 1 for those that ask.
 -- Assumes nothing.
-use Prim.Native.Nat.{ℕ, _+_, _-_, _*_, _/_, _≤_, _<_}
+use Prim.Native.Nat.{ℕ, _+_, _-_, _≤_, _<_}
 use mathlib.Core.Path.{_≡_, refl, sym, _∙_, ap, ap₂}
-use mathlib.Core.Bool.{Bool, true, false, cond, _||_}
+use mathlib.Core.Bool.{Bool, false, cond, _||_}
 use mathlib.Core.List.{List}
 use native.Mathlib.Nat.{le-antisymm}
 use native.Mathlib.Numerals.{add-one}
 use native.Mathlib.Omega.{arith}
-use lib.ListN.{length, getD}
+use lib.ListN.{getD}
 use borrow.Author.Needs.{needs}
 use denote.Ref.{now}
 use Rattle.lists.specs.Bits.{one}
@@ -15,12 +15,12 @@ use Rattle.lists.specs.Every.{someBelow}
 use Rattle.lists.specs.Places.{Filled, filled-none, filled-more, filled-below}
 use Rattle.port.specs.Form.{quietly}
 use Rattle.port.specs.declared.form.Moved.{Moved}
-use Rattle.port.specs.declared.form.Port.{Port}
 use Rattle.cells.specs.Cells.{portOf, written}
 use Rattle.cells.specs.Pass.{stage}
 use Rattle.cells.specs.Writes.{withPortCells}
 use Rattle.tick.specs.Moving.{come-none, come-all, come-long, come-class, come-moved, come-stepped, come-over, filled-skip, some-skip}
-use Rattle.tick.specs.Passes.{isSet, wholeMove, markedMove, steppedPort, steppedLane}
+use Rattle.claims.specs.Claimed.{isSet}
+use Rattle.tick.specs.Passes.{wholeMove, markedMove, steppedPort, steppedLane}
 use Rattle.tick.proofs.steps.steps.Statement.{statement}
 use Rattle.tick.proofs.steps.steps.Tie as tie
 

@@ -1,0 +1,37 @@
+-- What a tick is told of a port by this board's sample.
+use mathlib.Core.Bool.{cond}
+use Rattle.reading.specs.Class.{classOfTwo, budgetOf}
+use Rattle.reading.specs.Sample.{flagsOf}
+use Rattle.reading.specs.Signature.{signatureOf}
+use Rattle.reading.specs.declared.class.Class.{Class}
+use Rattle.reading.specs.declared.class.Class.the-variants.{Is, Failure}
+use Rattle.reading.specs.declared.sample.Sample.{Sample}
+use Rattle.reading.specs.declared.signature.Signature.{Signature}
+use Rattle.reading.specs.declared.signature.Signature.the-variants.{Valid, Invalid, Open}
+use Rattle.port.specs.declared.form.Classing.{Classing}
+use Rattle.port.specs.declared.form.Classing.the-variants.{NotDone as NotClassed, Failed, Is as Classed}
+use Rattle.port.specs.declared.form.Detection.{Detection}
+use Rattle.port.specs.declared.form.Detection.the-variants.{NotDone, Valid as DetectedValid, Invalid as DetectedInvalid, Open as DetectedOpen}
+use Rattle.port.specs.declared.form.Reading.{Reading}
+
+abbrev pub detectionOf : Signature → Detection
+detectionOf Valid = DetectedValid
+detectionOf Invalid = DetectedInvalid
+detectionOf Open = DetectedOpen
+
+-- a class with its budget
+abbrev pub classingOf : Class → Classing
+classingOf (Is k) = Classed k (budgetOf k)
+classingOf Failure = Failed
+
+-- the flags say whether detection and class are done; where they are not, their numbers are not looked at
+unfoldable pub digest : Sample → Reading
+digest s =
+    record {
+      detection = cond (flagsOf (s .flags) .«detection_done») (detectionOf (signatureOf (s .v1) (s .v2) (s .i1) (s .i2))) NotDone;
+      class = cond (flagsOf (s .flags) .«class_done») (classingOf (classOfTwo (s .c1) (s .c2))) NotClassed;
+      settled = flagsOf (s .flags) .settled;
+      limiting = flagsOf (s .flags) .limiting;
+      overload = flagsOf (s .flags) .overload;
+      load = flagsOf (s .flags) .load;
+    }
