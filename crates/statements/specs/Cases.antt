@@ -12,9 +12,9 @@ use Rattle.reading.specs.declared.class.Class.the-variants.{Is, Failure}
 use Rattle.reading.specs.declared.signature.Signature.the-variants.{Valid, Invalid, Open}
 use Rattle.share.specs.Cases.{threeKept}
 use Rattle.share.specs.Share.{claims, before, met, sumWhere, down, keeps}
-use Rattle.tlv.specs.Search.{isCut, powers, searchOf}
-use Rattle.tlv.specs.Walk.{walk, walkFrom}
-use Rattle.tlv.specs.declared.search.Searched.the-variants.{Refused}
+use Rattle.search.specs.Search.{isCut, powers, searchOf}
+use Rattle.walk.specs.Walk.{walk, walkFrom}
+use Rattle.search.specs.declared.Searched.the-variants.{Refused}
 use Rattle.statements.specs.Rows.{Row, Holds, meaning, differences, class, sharing, pdu, shows, is-class, stay, searched}
 
 pub cases : List Row

@@ -15,8 +15,8 @@ use Rattle.reading.specs.declared.sample.Sampled.{Sampled}
 use Rattle.reading.specs.declared.sample.Flags.{Flags}
 use Rattle.reading.specs.declared.signature.Signature.{Signature}
 use Rattle.share.specs.Cases.{threeKept}
-use Rattle.tlv.specs.Search.{searchOf}
-use Rattle.tlv.specs.declared.search.Searched.{Searched}
+use Rattle.search.specs.Search.{searchOf}
+use Rattle.search.specs.declared.Searched.{Searched}
 use Rattle.words.specs.Control.{controlOf, refused}
 use Rattle.words.specs.Status.{statusWord}
 use Rattle.words.specs.declared.control.Control.{Control}

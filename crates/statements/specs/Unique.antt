@@ -2,7 +2,7 @@
 -- words of the source up to names, with what a slice holds on entry by the slice's name and on exit by the name with a prime; `tools/public` reads the
 -- public functions off the sources, and fails if one is missing here or promises something else.
 -- Assumes nothing.
-use Prim.Native.Nat.{ℕ}
+use Prim.Native.Nat.{ℕ, _<_, _^_}
 use mathlib.Core.Path.{_≡_, refl, sym, _∙_, subst}
 use mathlib.Core.Bool.{Bool}
 use mathlib.Core.List.{List}
@@ -50,17 +50,18 @@ use Rattle.calls.specs.OnCells.{startOn, controlOn, statusOn, requestOn}
 use Rattle.tick.specs.OnCells.{tickOn}
 use Rattle.image.specs.Image.{imageable, saves, roomAfter as imageAfter}
 use Rattle.image.specs.Load.{restores, cellsRestored}
-use Rattle.tlv.specs.Fields.{badValues}
-use Rattle.tlv.specs.Read.{readOf}
-use Rattle.tlv.specs.Search.{searchOf}
-use Rattle.tlv.specs.Walk.{stepOf}
-use Rattle.tlv.specs.Write.{writtenOf, roomAfter}
-use Rattle.tlv.specs.declared.fields.Fields.{Fields}
-use Rattle.tlv.specs.declared.fields.Form.{Form}
-use Rattle.tlv.specs.declared.read.Taken.{Taken}
-use Rattle.tlv.specs.declared.search.Searched.{Searched}
-use Rattle.tlv.specs.declared.walk.Step.{Step}
-use Rattle.tlv.specs.declared.write.Written.{Written}
+use Rattle.header.specs.Header.{wordAt, typeAt, lengthAt, isPower}
+use Rattle.fields.specs.Fields.{badValues}
+use Rattle.reader.specs.Read.{readOf}
+use Rattle.search.specs.Search.{searchOf}
+use Rattle.walk.specs.Walk.{stepOf}
+use Rattle.writer.specs.Write.{writtenOf, roomAfter}
+use Rattle.fields.specs.declared.Fields.{Fields}
+use Rattle.fields.specs.declared.Form.{Form}
+use Rattle.reader.specs.declared.Taken.{Taken}
+use Rattle.search.specs.declared.Searched.{Searched}
+use Rattle.walk.specs.declared.Step.{Step}
+use Rattle.writer.specs.declared.Written.{Written}
 
 -- two results that obey the promise are equal
 abbrev pub One : (A : Type 0) → (A → Type 0) → Type 0
@@ -128,15 +129,19 @@ pub record Unique : Type 0 where
   pub calls-read-status : (cells : List ℕ) (port : ℕ) → OneWith Status (List ℕ) (λ r cells'. (r ≡ statusOn cells port .answer) × (cells' ≡ cellsRead (statusOn cells port) cells))
   pub calls-request : (cells : List ℕ) (port value : ℕ) → OneWith Answer (List ℕ) (λ r cells'. (r ≡ requestOn cells port value .answer) × (cells' ≡ cellsTold (requestOn cells port value) cells))
   pub tick-tick : (cells block : List ℕ) (figure : ℕ) → OneWith Closed (List ℕ) (λ r cells'. (r ≡ tickOn cells block figure .answer) × (cells' ≡ cellsTicked (tickOn cells block figure) cells))
-  pub tlv-fields-bad-values : (f : Form) → One Bool (λ r. r ≡ badValues f)
-  pub tlv-read-read : (bytes : List ℕ) → One Taken (λ r. r ≡ readOf bytes)
-  pub tlv-search-search : (pdu : List ℕ) → One Searched (λ r. r ≡ searchOf pdu)
+  pub header-word-at : (bytes : List ℕ) (at : ℕ) → One ℕ (λ r. r ≡ wordAt bytes at)
+  pub header-type-at : (bytes : List ℕ) (at : ℕ) → One ℕ (λ r. r ≡ typeAt bytes at)
+  pub header-length-at : (bytes : List ℕ) (at : ℕ) → One ℕ (λ r. (r ≡ lengthAt bytes at) × (r < 2 ^ 9))
+  pub header-is-power : (bytes : List ℕ) (at : ℕ) → One Bool (λ r. r ≡ isPower bytes at)
+  pub fields-bad-values : (f : Form) → One Bool (λ r. r ≡ badValues f)
+  pub reader-read : (bytes : List ℕ) → One Taken (λ r. r ≡ readOf bytes)
+  pub search-search : (pdu : List ℕ) → One Searched (λ r. r ≡ searchOf pdu)
   -- of the part that is handed back, its bytes
-  pub tlv-search-part : (pdu : List ℕ) (start size : ℕ) → One (List ℕ) (λ r. r ≡ take size (drop start pdu))
-  pub tlv-walk-new : (pdu : List ℕ) (at : ℕ) → One Walker (λ r. (r .pdu ≡ pdu) × (r .at ≡ at))
-  pub tlv-walk-here : (w : Walker) → One Step (λ s. s ≡ stepOf (w .pdu) (w .at))
-  pub tlv-walk-tlv-at : (pdu : List ℕ) (at : ℕ) → One Step (λ s. s ≡ stepOf pdu at)
-  pub tlv-write-write : (f : Fields) (room : List ℕ) → OneWith Written (List ℕ) (λ r room'. (r ≡ writtenOf f room) × (room' ≡ roomAfter f room))
+  pub search-part : (pdu : List ℕ) (start size : ℕ) → One (List ℕ) (λ r. r ≡ take size (drop start pdu))
+  pub walk-new : (pdu : List ℕ) (at : ℕ) → One Walker (λ r. (r .pdu ≡ pdu) × (r .at ≡ at))
+  pub walk-here : (w : Walker) → One Step (λ s. s ≡ stepOf (w .pdu) (w .at))
+  pub walk-tlv-at : (pdu : List ℕ) (at : ℕ) → One Step (λ s. s ≡ stepOf pdu at)
+  pub writer-write : (f : Fields) (room : List ℕ) → OneWith Written (List ℕ) (λ r room'. (r ≡ writtenOf f room) × (room' ≡ roomAfter f room))
   pub image-load-load : (bytes cells : List ℕ) → OneWith Bool (List ℕ) (λ r cells'. (r ≡ restores bytes cells) × (cells' ≡ cellsRestored bytes cells))
   pub image-store-imageable : (cells : List ℕ) → One Bool (λ r. r ≡ imageable cells)
   pub image-store-store : (cells room : List ℕ) → OneWith Bool (List ℕ) (λ r room'. (r ≡ saves cells room) × (room' ≡ imageAfter cells room))
@@ -204,15 +209,19 @@ unique =
       calls-read-status = λ cells port. with-room Status (List ℕ) (statusOn cells port .answer) (cellsRead (statusOn cells port) cells);
       calls-request = λ cells port value. with-room Answer (List ℕ) (requestOn cells port value .answer) (cellsTold (requestOn cells port value) cells);
       tick-tick = λ cells block figure. with-room Closed (List ℕ) (tickOn cells block figure .answer) (cellsTicked (tickOn cells block figure) cells);
-      tlv-fields-bad-values = λ f. one Bool (badValues f);
-      tlv-read-read = λ bytes. one Taken (readOf bytes);
-      tlv-search-search = λ pdu. one Searched (searchOf pdu);
-      tlv-search-part = λ pdu start size. one (List ℕ) (take size (drop start pdu));
-      tlv-walk-new = λ pdu at. walker pdu at;
-      tlv-walk-here = λ w. one Step (stepOf (w .pdu) (w .at));
-      tlv-walk-tlv-at = λ pdu at. one Step (stepOf pdu at);
+      header-word-at = λ bytes at. one ℕ (wordAt bytes at);
+      header-type-at = λ bytes at. one ℕ (typeAt bytes at);
+      header-length-at = λ bytes at r s p q. p .0 ∙ sym (q .0);
+      header-is-power = λ bytes at. one Bool (isPower bytes at);
+      fields-bad-values = λ f. one Bool (badValues f);
+      reader-read = λ bytes. one Taken (readOf bytes);
+      search-search = λ pdu. one Searched (searchOf pdu);
+      search-part = λ pdu start size. one (List ℕ) (take size (drop start pdu));
+      walk-new = λ pdu at. walker pdu at;
+      walk-here = λ w. one Step (stepOf (w .pdu) (w .at));
+      walk-tlv-at = λ pdu at. one Step (stepOf pdu at);
       image-load-load = λ bytes cells. with-room Bool (List ℕ) (restores bytes cells) (cellsRestored bytes cells);
       image-store-imageable = λ cells. one Bool (imageable cells);
       image-store-store = λ cells room. with-room Bool (List ℕ) (saves cells room) (imageAfter cells room);
-      tlv-write-write = λ f room. with-room Written (List ℕ) (writtenOf f room) (roomAfter f room);
+      writer-write = λ f room. with-room Written (List ℕ) (writtenOf f room) (roomAfter f room);
     }
