@@ -5,8 +5,8 @@ use reading::sample::Flags;
 use reading::sample::Sample;
 use reading::sample::Sampled;
 use reading::signature::Signature;
-use words::status::Condition;
-use words::status::Latches;
+use status::Condition;
+use status::Latches;
 
 fn number(n: u64) {
     io::print_decimal(1, n);
@@ -70,12 +70,12 @@ fn status(f: Flags, word: u16) {
         overload: f.overload,
         absent: f.load,
     };
-    number(words::status::status_word(latches, (word % 5) as u8, condition) as u64);
+    number(status::status_word(latches, (word % 5) as u8, condition) as u64);
 }
 
 fn control(word: u16) {
-    yes(words::control::refused(word as u64));
-    number(words::control::word_of(words::control::control_of(word)) as u64);
+    yes(control::refused(word as u64));
+    number(control::word_of(control::control_of(word)) as u64);
     yes(reading::class::is_demand(Power(word)));
 }
 

@@ -17,11 +17,11 @@ use Rattle.reading.specs.declared.signature.Signature.{Signature}
 use Rattle.share.specs.Cases.{threeKept}
 use Rattle.search.specs.Search.{searchOf}
 use Rattle.search.specs.declared.Searched.{Searched}
-use Rattle.words.specs.Control.{controlOf, refused}
-use Rattle.words.specs.Status.{statusWord}
-use Rattle.words.specs.declared.control.Control.{Control}
-use Rattle.words.specs.declared.status.Condition.{Condition}
-use Rattle.words.specs.declared.status.Latches.{Latches}
+use Rattle.control.specs.Control.{controlOf, refused}
+use Rattle.status.specs.Status.{statusWord}
+use Rattle.control.specs.declared.Control.{Control}
+use Rattle.status.specs.declared.Condition.{Condition}
+use Rattle.status.specs.declared.Latches.{Latches}
 
 pub data Question : Type 0 where
   -- "dV/dI, V1 = 4,000". The document leaves I1 open; here it is 1,000

@@ -19,14 +19,15 @@ use Rattle.reading.specs.declared.class.Class.{Class}
 use Rattle.reading.specs.declared.sample.Flags.{Flags}
 use Rattle.reading.specs.declared.sample.Sampled.{Sampled}
 use Rattle.reading.specs.declared.signature.Signature.{Signature}
-use Rattle.words.specs.Control.{enableOf, pairOf, priorityOf, controlOf, wordOf, refused, isOff, isOn, isForced}
-use Rattle.words.specs.Status.{join as joinLatches, statusWord}
-use Rattle.words.specs.declared.control.Control.{Control}
-use Rattle.words.specs.declared.control.Enable.{Enable}
-use Rattle.words.specs.declared.control.Pair.{Pair}
-use Rattle.words.specs.declared.control.Priority.{Priority}
-use Rattle.words.specs.declared.status.Condition.{Condition}
-use Rattle.words.specs.declared.status.Latches.{Latches}
+use Rattle.control.specs.Control.{enableOf, pairOf, priorityOf, controlOf, wordOf, refused}
+use Rattle.enable.specs.Enable.{isOff, isOn, isForced}
+use Rattle.status.specs.Status.{join as joinLatches, statusWord}
+use Rattle.control.specs.declared.Control.{Control}
+use Rattle.control.specs.declared.Enable.{Enable}
+use Rattle.control.specs.declared.Pair.{Pair}
+use Rattle.control.specs.declared.Priority.{Priority}
+use Rattle.status.specs.declared.Condition.{Condition}
+use Rattle.status.specs.declared.Latches.{Latches}
 use Rattle.settling.specs.Claim.{rankIn, settledAs}
 use Rattle.quick.specs.Sweep.{sweptLeft, sweptCells, sweptLane}
 use Rattle.port.specs.States.{closed, codeOf}
@@ -95,17 +96,17 @@ pub record Unique : Type 0 where
   pub reading-sample-reserved-flags : (word : ℕ) → One Bool (λ r. r ≡ reservedFlags word)
   pub reading-sample-flags-of : (word : ℕ) → One Flags (λ r. r ≡ flagsOf word)
   pub reading-signature-signature-of : (v1 v2 i1 i2 : ℕ) → One Signature (λ r. r ≡ signatureOf v1 v2 i1 i2)
-  pub words-control-enable-of : (word : ℕ) → One Enable (λ r. r ≡ enableOf word)
-  pub words-control-pair-of : (word : ℕ) → One Pair (λ r. r ≡ pairOf word)
-  pub words-control-priority-of : (word : ℕ) → One Priority (λ r. r ≡ priorityOf word)
-  pub words-control-control-of : (word : ℕ) → One Control (λ r. r ≡ controlOf word)
-  pub words-control-word-of : (c : Control) → One ℕ (λ r. r ≡ wordOf c)
-  pub words-control-refused : (word : ℕ) → One Bool (λ r. r ≡ refused word)
-  pub words-enable-is-off : (enable : Enable) → One Bool (λ r. r ≡ isOff enable)
-  pub words-enable-is-on : (enable : Enable) → One Bool (λ r. r ≡ isOn enable)
-  pub words-enable-is-forced : (enable : Enable) → One Bool (λ r. r ≡ isForced enable)
-  pub words-status-join : (self more : Latches) → One Latches (λ r. r ≡ joinLatches self more)
-  pub words-status-status-word : (l : Latches) (c : ℕ) (k : Condition) → One ℕ (λ r. r ≡ statusWord l c k)
+  pub control-enable-of : (word : ℕ) → One Enable (λ r. r ≡ enableOf word)
+  pub control-pair-of : (word : ℕ) → One Pair (λ r. r ≡ pairOf word)
+  pub control-priority-of : (word : ℕ) → One Priority (λ r. r ≡ priorityOf word)
+  pub control-control-of : (word : ℕ) → One Control (λ r. r ≡ controlOf word)
+  pub control-word-of : (c : Control) → One ℕ (λ r. r ≡ wordOf c)
+  pub control-refused : (word : ℕ) → One Bool (λ r. r ≡ refused word)
+  pub enable-is-off : (enable : Enable) → One Bool (λ r. r ≡ isOff enable)
+  pub enable-is-on : (enable : Enable) → One Bool (λ r. r ≡ isOn enable)
+  pub enable-is-forced : (enable : Enable) → One Bool (λ r. r ≡ isForced enable)
+  pub status-join : (self more : Latches) → One Latches (λ r. r ≡ joinLatches self more)
+  pub status-status-word : (l : Latches) (c : ℕ) (k : Condition) → One ℕ (λ r. r ≡ statusWord l c k)
   pub port-closed-is-closed : (state : State) → One Bool (λ r. r ≡ closed state)
   pub port-entry-up : (n : ℕ) → One ℕ (λ r. r ≡ up n)
   pub port-entry-during : (runs : Bool) (n : ℕ) → One ℕ (λ r. r ≡ during runs n)
@@ -175,17 +176,17 @@ unique =
       reading-sample-reserved-flags = λ word. one Bool (reservedFlags word);
       reading-sample-flags-of = λ word. one Flags (flagsOf word);
       reading-signature-signature-of = λ v1 v2 i1 i2. one Signature (signatureOf v1 v2 i1 i2);
-      words-control-enable-of = λ word. one Enable (enableOf word);
-      words-control-pair-of = λ word. one Pair (pairOf word);
-      words-control-priority-of = λ word. one Priority (priorityOf word);
-      words-control-control-of = λ word. one Control (controlOf word);
-      words-control-word-of = λ c. one ℕ (wordOf c);
-      words-control-refused = λ word. one Bool (refused word);
-      words-enable-is-off = λ enable. one Bool (isOff enable);
-      words-enable-is-on = λ enable. one Bool (isOn enable);
-      words-enable-is-forced = λ enable. one Bool (isForced enable);
-      words-status-join = λ self more. one Latches (joinLatches self more);
-      words-status-status-word = λ l c k. one ℕ (statusWord l c k);
+      control-enable-of = λ word. one Enable (enableOf word);
+      control-pair-of = λ word. one Pair (pairOf word);
+      control-priority-of = λ word. one Priority (priorityOf word);
+      control-control-of = λ word. one Control (controlOf word);
+      control-word-of = λ c. one ℕ (wordOf c);
+      control-refused = λ word. one Bool (refused word);
+      enable-is-off = λ enable. one Bool (isOff enable);
+      enable-is-on = λ enable. one Bool (isOn enable);
+      enable-is-forced = λ enable. one Bool (isForced enable);
+      status-join = λ self more. one Latches (joinLatches self more);
+      status-status-word = λ l c k. one ℕ (statusWord l c k);
       port-closed-is-closed = λ state. one Bool (closed state);
       port-entry-up = λ n. one ℕ (up n);
       port-entry-during = λ runs n. one ℕ (during runs n);

@@ -17,7 +17,7 @@ use Rattle.reading.specs.Class.{classOf, isFour, classOfTwo, budgetOf, isDemand
 use Rattle.reading.specs.Sample.{wordAt, sampleAt, reservedFlags, flagsOf}
 use Rattle.reading.specs.declared.sample.Sample.{Sample}
 use Rattle.reading.specs.Signature.{outside, byDifferences, signatureOf}
-use Rattle.words.specs.Control.{enableOf, pairOf, priorityOf, refused}
+use Rattle.control.specs.Control.{enableOf, pairOf, priorityOf, refused}
 use Rattle.port.specs.Entry.{up, enter}
 use Rattle.diagram.specs.Rules.{idle, detected, detecting, classed, classifying}
 use Rattle.settling.specs.Settle.{rank, granted, shed, settled}

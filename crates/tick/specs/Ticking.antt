@@ -19,7 +19,7 @@ use Rattle.lists.specs.Total.{total, total-cong, total-zero}
 use Rattle.power.specs.Power.{tenths, forced}
 use Rattle.power.specs.declared.Power.{Power}
 use Rattle.reading.specs.Sample.{sampleAt, reservedFlags, flagsOf}
-use Rattle.words.specs.Control.{refused}
+use Rattle.control.specs.Control.{refused}
 use Rattle.port.specs.Form.{quietly}
 use Rattle.port.specs.States.{closed}
 use Rattle.port.specs.declared.form.Moved.{Moved}

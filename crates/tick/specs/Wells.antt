@@ -14,7 +14,7 @@ use Rattle.reading.specs.declared.class.Class.{Class}
 use Rattle.reading.specs.declared.class.Class.the-variants.{Is, Failure}
 use Rattle.reading.specs.declared.sample.Sample.{Sample}
 use Rattle.reading.specs.Sample.{flagsOf}
-use Rattle.words.specs.declared.status.Latches.{Latches}
+use Rattle.status.specs.declared.Latches.{Latches}
 use Rattle.port.specs.Entry.{enter}
 use Rattle.port.specs.Form.{withClass, withLatches}
 use Rattle.diagram.specs.Rules.{stressed}

@@ -9,7 +9,7 @@ ghost use lib.Dec.{leb};
 ghost use lib.ListN.{length};
 ghost use Rattle.power.specs.Power.{tenths};
 ghost use Rattle.reading.specs.Class.{isDemand};
-ghost use Rattle.words.specs.Control.{refused};
+ghost use Rattle.control.specs.Control.{refused};
 ghost use Rattle.table.specs.Head.{wellCounts, wellHead};
 ghost use Rattle.cells.specs.Cells.{cellsLong, countsOf};
 ghost use Rattle.well.specs.Judged.{portFine, headCells, wellCells};
