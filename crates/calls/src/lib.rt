@@ -2,10 +2,10 @@
 // the cells where they stand, and a refusal none of them.
 use cells::latches_of;
 use cells::state_of;
+use class::budget;
 use port::form::State;
 use power::Power;
 use power::Sum;
-use reading::class::budget;
 use status::Condition;
 use status::status_word;
 use table::form::Answer;

@@ -1,10 +1,10 @@
 // The answers, written into the room for output from a place on. Each function says where the next byte goes.
+use class::Class;
 use fields::Fields;
 use fields::Form;
 use reader::Taken;
-use reading::class::Class;
-use reading::signature::Signature;
 use search::Searched;
+use signature::Signature;
 use table::form::Answer;
 use table::form::Closed;
 use table::form::Status;

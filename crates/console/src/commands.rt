@@ -329,12 +329,7 @@ fn signature(line: &[u8], out: &mut [u8], at: usize) -> usize {
     if over(65_535, a, 0, 4) {
         return bad_line(out, at);
     }
-    let shown = reading::signature::signature_of(
-        short(a.n[0]),
-        short(a.n[1]),
-        short(a.n[2]),
-        short(a.n[3]),
-    );
+    let shown = signature::signature_of(short(a.n[0]), short(a.n[1]), short(a.n[2]), short(a.n[3]));
     crate::answers::signature(out, at, shown)
 }
 
@@ -346,7 +341,7 @@ fn class(line: &[u8], out: &mut [u8], at: usize) -> usize {
     if over(65_535, a, 0, 2) {
         return bad_line(out, at);
     }
-    let shown = reading::class::class_of_two(short(a.n[0]), short(a.n[1]));
+    let shown = class::class_of_two(short(a.n[0]), short(a.n[1]));
     crate::answers::class(out, at, shown)
 }
 

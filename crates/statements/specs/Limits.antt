@@ -8,12 +8,12 @@ use Rattle.lists.specs.Bits.{bit, field, above}
 use Rattle.lists.specs.Table.{some}
 use Rattle.power.specs.Power.{tenths, supplyOf}
 use Rattle.power.specs.declared.Supply.the-variants.{Is as Supply-Is, TooLarge}
-use Rattle.reading.specs.Class.{classOf, isFour, classOfTwo, budgetOf, isDemand}
-use Rattle.reading.specs.Sample.{wordAt, sampleAt, sampleOf, flagsOf, reservedFlags}
-use Rattle.reading.specs.Signature.{outside, byDifferences, signatureOf}
-use Rattle.reading.specs.declared.class.Class.the-variants.{Is, Failure}
-use Rattle.reading.specs.declared.sample.Sampled.the-variants.{Is as Whole, Cut}
-use Rattle.reading.specs.declared.signature.Signature.the-variants.{Valid, Invalid, Open}
+use Rattle.class.specs.Class.{classOf, isFour, classOfTwo, budgetOf, isDemand}
+use Rattle.sample.specs.Sample.{wordAt, sampleAt, sampleOf, flagsOf, reservedFlags}
+use Rattle.signature.specs.Signature.{outside, byDifferences, signatureOf}
+use Rattle.class.specs.declared.Class.the-variants.{Is, Failure}
+use Rattle.sample.specs.declared.Sampled.the-variants.{Is as Whole, Cut}
+use Rattle.signature.specs.declared.Signature.the-variants.{Valid, Invalid, Open}
 use Rattle.control.specs.Control.{enableOf, pairOf, priorityOf, controlOf, refused}
 use Rattle.status.specs.Status.{statusWord}
 use Rattle.control.specs.declared.Enable.the-variants.{Disabled, Enabled, Forced, Reserved}

@@ -15,7 +15,7 @@ use Rattle.power.specs.Power.{tenths, atMost, highestSupply}
 use Rattle.power.specs.declared.Power.{Power}
 use Rattle.status.specs.Laws.{join-none}
 use Rattle.status.specs.Status.{join}
-use Rattle.reading.specs.Class.{isDemand}
+use Rattle.class.specs.Class.{isDemand}
 use Rattle.port.specs.Entry.{enter}
 use Rattle.port.specs.Form.{withDemand, quietly, asking}
 use Rattle.port.specs.States.{closed}

@@ -7,13 +7,13 @@ use mathlib.Core.List.{List, map}
 use Rattle.power.specs.Power.{forced, supplyOf, tenths}
 use Rattle.power.specs.declared.Power.{Power}
 use Rattle.power.specs.declared.Supply.{Supply}
-use Rattle.reading.specs.Class.{classOf, classOfTwo, budgetOf, isDemand}
-use Rattle.reading.specs.Sample.{sampleOf, flagsOf, reservedFlags}
-use Rattle.reading.specs.Signature.{outside, signatureOf}
-use Rattle.reading.specs.declared.class.Class.{Class}
-use Rattle.reading.specs.declared.sample.Sampled.{Sampled}
-use Rattle.reading.specs.declared.sample.Flags.{Flags}
-use Rattle.reading.specs.declared.signature.Signature.{Signature}
+use Rattle.class.specs.Class.{classOf, classOfTwo, budgetOf, isDemand}
+use Rattle.sample.specs.Sample.{sampleOf, flagsOf, reservedFlags}
+use Rattle.signature.specs.Signature.{outside, signatureOf}
+use Rattle.class.specs.declared.Class.{Class}
+use Rattle.sample.specs.declared.Sampled.{Sampled}
+use Rattle.sample.specs.declared.Flags.{Flags}
+use Rattle.signature.specs.declared.Signature.{Signature}
 use Rattle.share.specs.Cases.{threeKept}
 use Rattle.search.specs.Search.{searchOf}
 use Rattle.search.specs.declared.Searched.{Searched}

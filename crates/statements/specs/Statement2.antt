@@ -12,7 +12,7 @@ use borrow.Author.Tests.{lt-leb, le-leb}
 use Rattle.lists.specs.Bits.{bit}
 use Rattle.lists.specs.Count.{count}
 use Rattle.power.specs.Power.{tenths, forced}
-use Rattle.reading.specs.Sample.{sampleAt}
+use Rattle.sample.specs.Sample.{sampleAt}
 use Rattle.control.specs.Control.{pairOf}
 use Rattle.port.specs.States.{closed, inTest}
 use Rattle.port.specs.Entry.{enter}

@@ -12,13 +12,13 @@ use Rattle.power.specs.Power.{atMost, same, supplyOf, plus, join as joinSums, f
 use Rattle.power.specs.declared.Power.{Power}
 use Rattle.power.specs.declared.Sum.{Sum}
 use Rattle.power.specs.declared.Supply.{Supply}
-use Rattle.reading.specs.Class.{classOf, classOfTwo, budgetOf, isDemand}
-use Rattle.reading.specs.Sample.{sampleOf, reservedFlags, flagsOf}
-use Rattle.reading.specs.Signature.{signatureOf}
-use Rattle.reading.specs.declared.class.Class.{Class}
-use Rattle.reading.specs.declared.sample.Flags.{Flags}
-use Rattle.reading.specs.declared.sample.Sampled.{Sampled}
-use Rattle.reading.specs.declared.signature.Signature.{Signature}
+use Rattle.class.specs.Class.{classOf, classOfTwo, budgetOf, isDemand}
+use Rattle.sample.specs.Sample.{sampleOf, reservedFlags, flagsOf}
+use Rattle.signature.specs.Signature.{signatureOf}
+use Rattle.class.specs.declared.Class.{Class}
+use Rattle.sample.specs.declared.Flags.{Flags}
+use Rattle.sample.specs.declared.Sampled.{Sampled}
+use Rattle.signature.specs.declared.Signature.{Signature}
 use Rattle.control.specs.Control.{enableOf, pairOf, priorityOf, controlOf, wordOf, refused}
 use Rattle.enable.specs.Enable.{isOff, isOn, isForced}
 use Rattle.status.specs.Status.{join as joinLatches, statusWord}
@@ -88,14 +88,14 @@ pub record Unique : Type 0 where
   pub power-plus : (self : Sum) (a : Power) → One Sum (λ r. r ≡ plus self a)
   pub power-join : (self other : Sum) → One Sum (λ r. r ≡ joinSums self other)
   pub power-fits : (self : Sum) (s : Power) → One Bool (λ r. r ≡ fits self s)
-  pub reading-class-class-of : (current : ℕ) → One Class (λ r. r ≡ classOf current)
-  pub reading-class-class-of-two : (c1 c2 : ℕ) → One Class (λ r. r ≡ classOfTwo c1 c2)
-  pub reading-class-budget : (c : ℕ) → One Power (λ r. r ≡ budgetOf c)
-  pub reading-class-is-demand : (d : Power) → One Bool (λ r. r ≡ isDemand d)
-  pub reading-sample-sample-of : (block : List ℕ) (p : ℕ) → One Sampled (λ r. r ≡ sampleOf block p)
-  pub reading-sample-reserved-flags : (word : ℕ) → One Bool (λ r. r ≡ reservedFlags word)
-  pub reading-sample-flags-of : (word : ℕ) → One Flags (λ r. r ≡ flagsOf word)
-  pub reading-signature-signature-of : (v1 v2 i1 i2 : ℕ) → One Signature (λ r. r ≡ signatureOf v1 v2 i1 i2)
+  pub class-class-of : (current : ℕ) → One Class (λ r. r ≡ classOf current)
+  pub class-class-of-two : (c1 c2 : ℕ) → One Class (λ r. r ≡ classOfTwo c1 c2)
+  pub class-budget : (c : ℕ) → One Power (λ r. r ≡ budgetOf c)
+  pub class-is-demand : (d : Power) → One Bool (λ r. r ≡ isDemand d)
+  pub sample-sample-of : (block : List ℕ) (p : ℕ) → One Sampled (λ r. r ≡ sampleOf block p)
+  pub sample-reserved-flags : (word : ℕ) → One Bool (λ r. r ≡ reservedFlags word)
+  pub sample-flags-of : (word : ℕ) → One Flags (λ r. r ≡ flagsOf word)
+  pub signature-signature-of : (v1 v2 i1 i2 : ℕ) → One Signature (λ r. r ≡ signatureOf v1 v2 i1 i2)
   pub control-enable-of : (word : ℕ) → One Enable (λ r. r ≡ enableOf word)
   pub control-pair-of : (word : ℕ) → One Pair (λ r. r ≡ pairOf word)
   pub control-priority-of : (word : ℕ) → One Priority (λ r. r ≡ priorityOf word)
@@ -168,14 +168,14 @@ unique =
       power-plus = λ self a. one Sum (plus self a);
       power-join = λ self other. one Sum (joinSums self other);
       power-fits = λ self s. one Bool (fits self s);
-      reading-class-class-of = λ current. one Class (classOf current);
-      reading-class-class-of-two = λ c1 c2. one Class (classOfTwo c1 c2);
-      reading-class-budget = λ c. one Power (budgetOf c);
-      reading-class-is-demand = λ d. one Bool (isDemand d);
-      reading-sample-sample-of = λ block p. one Sampled (sampleOf block p);
-      reading-sample-reserved-flags = λ word. one Bool (reservedFlags word);
-      reading-sample-flags-of = λ word. one Flags (flagsOf word);
-      reading-signature-signature-of = λ v1 v2 i1 i2. one Signature (signatureOf v1 v2 i1 i2);
+      class-class-of = λ current. one Class (classOf current);
+      class-class-of-two = λ c1 c2. one Class (classOfTwo c1 c2);
+      class-budget = λ c. one Power (budgetOf c);
+      class-is-demand = λ d. one Bool (isDemand d);
+      sample-sample-of = λ block p. one Sampled (sampleOf block p);
+      sample-reserved-flags = λ word. one Bool (reservedFlags word);
+      sample-flags-of = λ word. one Flags (flagsOf word);
+      signature-signature-of = λ v1 v2 i1 i2. one Signature (signatureOf v1 v2 i1 i2);
       control-enable-of = λ word. one Enable (enableOf word);
       control-pair-of = λ word. one Pair (pairOf word);
       control-priority-of = λ word. one Priority (priorityOf word);

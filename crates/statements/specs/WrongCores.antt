@@ -15,8 +15,8 @@ use Rattle.lists.specs.Every.{someBelow}
 use Rattle.lists.specs.Table.{some}
 use Rattle.lists.specs.Total.{total}
 use Rattle.power.specs.Power.{tenths, zeroPower, over}
-use Rattle.reading.specs.Class.{classOf, isFour, classOfTwo, budgetOf, isDemand}
-use Rattle.reading.specs.Sample.{wordAt, sampleAt, reservedFlags, flagsOf}
+use Rattle.class.specs.Class.{classOf, isFour, classOfTwo, budgetOf, isDemand}
+use Rattle.sample.specs.Sample.{wordAt, sampleAt, reservedFlags, flagsOf}
 use Rattle.control.specs.Control.{enableOf, pairOf, priorityOf, refused}
 use Rattle.status.specs.Status.{noLatches}
 use Rattle.port.specs.Entry.{up, enter}

@@ -11,7 +11,7 @@ use Rattle.lists.specs.Table.{some}
 use Rattle.lists.specs.Tests.{and-left, and-right, choice}
 use Rattle.power.specs.Power.{atMost, highestSupply}
 use Rattle.power.specs.declared.Power.{Power}
-use Rattle.reading.specs.Class.{isDemand}
+use Rattle.class.specs.Class.{isDemand}
 use Rattle.control.specs.Control.{refused}
 use Rattle.status.specs.declared.Latches.{Latches}
 use Rattle.port.specs.Entry.{up, during, countsOnEntry, demandOnEntry, enter}

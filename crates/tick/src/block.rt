@@ -1,13 +1,13 @@
 // What a tick reads off its sample block.
-use reading::sample::Sample;
-use reading::sample::Sampled;
-use reading::sample::sample_of;
+use sample::Sample;
+use sample::Sampled;
+use sample::sample_of;
 ghost use mathlib.Core.Path.{_≡_};
 ghost use mathlib.Core.Bool.{true, _&&_};
 ghost use Prim.Native.Nat.{_+_, _*_, _/_, _<_, _≤_};
 ghost use lib.Dec.{ltb};
 ghost use lib.ListN.{length, set};
-ghost use Rattle.reading.specs.Sample.{sampleAt};
+ghost use Rattle.sample.specs.Sample.{sampleAt};
 ghost use Rattle.tick.specs.Passes.{flagsFine, flagsOfPort, flagLane};
 
 // The sample of a port that the block has.

@@ -14,7 +14,7 @@ use Rattle.lists.specs.Bits.{above}
 use Rattle.lists.specs.Every.{every, every-next, every-at, every-not, every-cong}
 use Rattle.lists.specs.Places.{Filled, filled-none, filled-more, filled-below}
 use Rattle.lists.specs.Tests.{and-left, and-right, and-both, not-both, not-leb}
-use Rattle.reading.specs.Sample.{reservedFlags}
+use Rattle.sample.specs.Sample.{reservedFlags}
 use Rattle.tick.specs.Passes.{flagsOfPort, flagsFine, flagLane}
 use Rattle.tick.proofs.block.flags_into.Statement.{statement}
 use Rattle.tick.proofs.block.flags_into.Tie as tie

@@ -6,7 +6,7 @@ use borrow.Author.Needs.{needs}
 use borrow.Author.Tests.{eq-eqb, ne-eqb}
 use denote.Ref.{now}
 use Rattle.power.specs.Power.{forced}
-use Rattle.reading.specs.Sample.{sampleAt}
+use Rattle.sample.specs.Sample.{sampleAt}
 use Rattle.port.specs.declared.form.Moved.{Moved}
 use Rattle.diagram.specs.Step.{step}
 use Rattle.cells.specs.Cells.{portOf}
