@@ -1,13 +1,13 @@
 -- What a tick is told of a port by this board's sample.
 use mathlib.Core.Bool.{cond}
-use Rattle.reading.specs.Class.{classOfTwo, budgetOf}
-use Rattle.reading.specs.Sample.{flagsOf}
-use Rattle.reading.specs.Signature.{signatureOf}
-use Rattle.reading.specs.declared.class.Class.{Class}
-use Rattle.reading.specs.declared.class.Class.the-variants.{Is, Failure}
-use Rattle.reading.specs.declared.sample.Sample.{Sample}
-use Rattle.reading.specs.declared.signature.Signature.{Signature}
-use Rattle.reading.specs.declared.signature.Signature.the-variants.{Valid, Invalid, Open}
+use Rattle.class.specs.Class.{classOfTwo, budgetOf}
+use Rattle.sample.specs.Sample.{flagsOf}
+use Rattle.signature.specs.Signature.{signatureOf}
+use Rattle.class.specs.declared.Class.{Class}
+use Rattle.class.specs.declared.Class.the-variants.{Is, Failure}
+use Rattle.sample.specs.declared.Sample.{Sample}
+use Rattle.signature.specs.declared.Signature.{Signature}
+use Rattle.signature.specs.declared.Signature.the-variants.{Valid, Invalid, Open}
 use Rattle.port.specs.declared.form.Classing.{Classing}
 use Rattle.port.specs.declared.form.Classing.the-variants.{NotDone as NotClassed, Failed, Is as Classed}
 use Rattle.port.specs.declared.form.Detection.{Detection}

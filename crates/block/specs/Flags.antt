@@ -9,7 +9,7 @@ use lib.ListN.{length, getD, set}
 use borrow.Author.Tests.{le-leb, eq-eqb}
 use Rattle.lists.specs.Every.{every}
 use Rattle.lists.specs.Places.{tabulate}
-use Rattle.reading.specs.Sample.{sampleAt, reservedFlags}
+use Rattle.sample.specs.Sample.{sampleAt, reservedFlags}
 
 -- a port's flags in the block: "14 bytes a port, in port order"
 unfoldable pub flagsOfPort : List ℕ → ℕ → ℕ

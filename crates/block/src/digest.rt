@@ -1,18 +1,18 @@
 // What a tick is told of a port by this board's sample.
+use class::Class;
+use class::budget;
+use class::class_of_two;
 use port::form::Classing;
 use port::form::Detection;
 use port::form::Reading;
-use reading::class::Class;
-use reading::class::budget;
-use reading::class::class_of_two;
-use reading::sample::Sample;
-use reading::sample::flags_of;
-use reading::signature::Signature;
-use reading::signature::signature_of;
+use sample::Sample;
+use sample::flags_of;
+use signature::Signature;
+use signature::signature_of;
 ghost use mathlib.Core.Path.{_≡_};
 ghost use mathlib.Core.Bool.{cond};
-ghost use Rattle.reading.specs.Class.{classOfTwo};
-ghost use Rattle.reading.specs.Signature.{signatureOf};
+ghost use Rattle.class.specs.Class.{classOfTwo};
+ghost use Rattle.signature.specs.Signature.{signatureOf};
 ghost use Rattle.block.specs.Digest.{detectionOf, classingOf, digest};
 
 fn detection_of(signature: Signature) -> Detection

@@ -12,9 +12,9 @@ use Rattle.lists.specs.Places.{getD-tabulate}
 use Rattle.lists.specs.Tests.{and-left, and-right}
 use Rattle.lists.specs.Total.{total-mono, total-fewer}
 use Rattle.power.specs.declared.Power.{Power}
-use Rattle.words.specs.Laws.{join-assoc}
-use Rattle.words.specs.Status.{join}
-use Rattle.words.specs.declared.status.Latches.{Latches}
+use Rattle.status.specs.Laws.{join-assoc}
+use Rattle.status.specs.Status.{join}
+use Rattle.status.specs.declared.Latches.{Latches}
 use Rattle.port.specs.States.{closed}
 use Rattle.settling.specs.Settle.{rank, settled}
 use Rattle.port.specs.declared.form.Moved.{Moved}

@@ -10,9 +10,9 @@ use Rattle.lists.specs.Bits.{bit, field, above, one, choose}
 use Rattle.lists.specs.Count.{count, ones-mask, count-either, bit-mask, bit-past}
 use Rattle.lists.specs.Tests.{and-left, fails-right}
 use Rattle.lists.specs.Total.{total-cong}
-use Rattle.words.specs.Control.{refused, pairOf}
-use Rattle.words.specs.declared.control.Pair.{Pair}
-use Rattle.words.specs.declared.control.Pair.the-variants.{Neither, A, B, Both}
+use Rattle.control.specs.Control.{refused, pairOf}
+use Rattle.control.specs.declared.Pair.{Pair}
+use Rattle.control.specs.declared.Pair.the-variants.{Neither, A, B, Both}
 use Rattle.port.specs.States.{closed}
 use Rattle.table.specs.Drawn.{closedAt}
 use Rattle.table.specs.Form.{places, portAt}

@@ -3,9 +3,9 @@ use Prim.Native.Nat.{ℕ, _+_}
 use mathlib.Core.Bool.{Bool, true, false, _&&_}
 use lib.Count.{ones}
 use Rattle.lists.specs.Count.{mask}
-use Rattle.words.specs.Control.{pairOf}
-use Rattle.words.specs.declared.control.Pair.{Pair}
-use Rattle.words.specs.declared.control.Pair.the-variants.{Neither, A, B, Both}
+use Rattle.control.specs.Control.{pairOf}
+use Rattle.control.specs.declared.Pair.{Pair}
+use Rattle.control.specs.declared.Pair.the-variants.{Neither, A, B, Both}
 use Rattle.table.specs.Drawn.{closedAt}
 use Rattle.table.specs.Form.{places, portAt}
 use Rattle.table.specs.declared.form.Closed.the-variants.{Ports}

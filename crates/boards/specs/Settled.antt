@@ -10,9 +10,9 @@ use lib.Dec.{leb}
 use borrow.Author.Tests.{leb-true}
 use Rattle.lists.specs.Tests.{choice}
 use Rattle.power.specs.declared.Power.{Power}
-use Rattle.words.specs.Control.{priorityOf}
-use Rattle.words.specs.Laws.{join-none}
-use Rattle.words.specs.Status.{noLatches, join}
+use Rattle.control.specs.Control.{priorityOf}
+use Rattle.status.specs.Laws.{join-none}
+use Rattle.status.specs.Status.{noLatches, join}
 use Rattle.port.specs.Entry.{enter}
 use Rattle.port.specs.Form.{quietly, latchDenied}
 use Rattle.port.specs.States.{closed, inTest}

@@ -6,8 +6,8 @@ use lib.Dec.{ltb}
 use Rattle.lists.specs.Places.{tabulate}
 use Rattle.power.specs.Power.{zeroPower}
 use Rattle.power.specs.declared.Power.{Power}
-use Rattle.words.specs.Status.{noLatches, join}
-use Rattle.words.specs.declared.status.Latches.{Latches}
+use Rattle.status.specs.Status.{noLatches, join}
+use Rattle.status.specs.declared.Latches.{Latches}
 use Rattle.port.specs.declared.form.Moved.{Moved}
 use Rattle.port.specs.declared.form.Port.{Port}
 use Rattle.settling.specs.Settle.{rank, settled}

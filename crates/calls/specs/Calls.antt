@@ -8,9 +8,9 @@ use Rattle.lists.specs.Bits.{field}
 use Rattle.lists.specs.Ladder.{ladder}
 use Rattle.power.specs.Power.{zeroPower, over, fits, sumOf}
 use Rattle.power.specs.declared.Power.{Power}
-use Rattle.reading.specs.Class.{budgetOf}
-use Rattle.words.specs.Control.{refused}
-use Rattle.words.specs.Status.{noLatches, statusWord}
+use Rattle.class.specs.Class.{budgetOf}
+use Rattle.control.specs.Control.{refused}
+use Rattle.status.specs.Status.{noLatches, statusWord}
 use Rattle.port.specs.Form.{withDemand, withLatches}
 use Rattle.port.specs.declared.form.Port.{Port}
 use Rattle.port.specs.declared.form.State.the-variants.{Disabled}

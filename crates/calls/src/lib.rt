@@ -2,21 +2,21 @@
 // the cells where they stand, and a refusal none of them.
 use cells::latches_of;
 use cells::state_of;
+use class::budget;
 use port::form::State;
 use power::Power;
 use power::Sum;
-use reading::class::budget;
+use status::Condition;
+use status::status_word;
 use table::form::Answer;
 use table::form::Status;
 use well::well_made;
-use words::status::Condition;
-use words::status::status_word;
 ghost use mathlib.Core.Path.{_≡_};
 ghost use mathlib.Core.Bool.{cond, _||_};
 ghost use Prim.Native.Nat.{_<_, _^_};
 ghost use lib.ListN.{length};
 ghost use Rattle.power.specs.Power.{sumOf};
-ghost use Rattle.words.specs.Status.{statusWord};
+ghost use Rattle.status.specs.Status.{statusWord};
 ghost use Rattle.port.specs.States.{closed, condition, inDisabled};
 ghost use Rattle.table.specs.Drawn.{closedSum};
 ghost use Rattle.table.specs.Form.{portAt};
@@ -93,7 +93,7 @@ fn controlled(cells: &mut [u16], p: usize, word: u64) -> Answer
     ensures { λ r. ⌜ r ≡ controlRest (now (cells .entry)) p word .answer ⌝ }
     ensures { λ _. ⌜ now (cells .exit) ≡ cellsTold (controlRest (now (cells .entry)) p word) (now (cells .entry)) ⌝ }
 {
-    if words::control::refused(word) {
+    if control::refused(word) {
         return Answer::Refused(3);
     }
     let control = word as u16;

@@ -10,7 +10,7 @@ use borrow.Author.Tests.{eqb-true, ne-eqb}
 use Rattle.lists.specs.Bits.{bit, one-small, one-says}
 use Rattle.lists.specs.Places.{side, tabulate, tabulate-at, getD-tabulate}
 use Rattle.lists.specs.Table.{all, entry}
-use Rattle.words.specs.declared.status.Latches.{Latches}
+use Rattle.status.specs.declared.Latches.{Latches}
 use Rattle.port.specs.States.{codeOf, closed, inDisabled, inPowerOn}
 use Rattle.port.specs.declared.form.State.{State}
 use Rattle.port.specs.declared.form.State.the-variants.{Disabled, Idle, Detecting, Backoff, Classifying, PowerUp, PowerOn, ErrorDelay, TestMode, TestError}

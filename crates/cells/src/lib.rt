@@ -1,6 +1,6 @@
 // The codes of states and latches in a lent table. What the table's cells mean is in specs/Cells.antt.
 use port::form::State;
-use words::status::Latches;
+use status::Latches;
 ghost use mathlib.Core.Path.{_≡_};
 ghost use Prim.Native.Nat.{_*_, _<_, _≤_};
 ghost use Rattle.lists.specs.Bits.{one};

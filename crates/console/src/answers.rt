@@ -1,6 +1,10 @@
 // The answers, written into the room for output from a place on. Each function says where the next byte goes.
-use reading::class::Class;
-use reading::signature::Signature;
+use class::Class;
+use fields::Fields;
+use fields::Form;
+use reader::Taken;
+use search::Searched;
+use signature::Signature;
 use table::form::Answer;
 use table::form::Closed;
 use table::form::Status;
@@ -8,10 +12,6 @@ use text::end;
 use text::line;
 use text::number;
 use text::text;
-use tlv::fields::Fields;
-use tlv::fields::Form;
-use tlv::read::Taken;
-use tlv::search::Searched;
 
 pub fn bad_line(out: &mut [u8], at: usize) -> usize {
     line(out, at, b"bad line")

@@ -1,6 +1,9 @@
 // The commands: a line's words to a call of the core. Whatever is not well formed is a bad line, and nothing changes.
 use crate::answers::bad_line;
 use check::same;
+use fields::Added;
+use fields::Fields;
+use fields::Form;
 use parts::Bytes;
 use parts::Number;
 use parts::Numbers;
@@ -12,10 +15,7 @@ use parts::numbers_of;
 use parts::word;
 use text::end;
 use text::hex;
-use tlv::fields::Added;
-use tlv::fields::Fields;
-use tlv::fields::Form;
-use tlv::write::Written;
+use writer::Written;
 ghost use mathlib.Core.Path.{_≡_};
 ghost use Prim.Native.Nat.{_/_, _≤_};
 ghost use lib.ListN.{length};
@@ -209,7 +209,7 @@ fn tick(line: &[u8], data: &mut [u8], cells: &mut [u16], out: &mut [u8], at: usi
 fn search(line: &[u8], data: &mut [u8], out: &mut [u8], at: usize) -> usize {
     match only(line, data) {
         Bytes::Are(n) => {
-            let answer = tlv::search::search(front(data, n));
+            let answer = search::search(front(data, n));
             crate::answers::searched(out, at, answer)
         }
         Bytes::Bad => bad_line(out, at),
@@ -219,7 +219,7 @@ fn search(line: &[u8], data: &mut [u8], out: &mut [u8], at: usize) -> usize {
 fn read(line: &[u8], data: &mut [u8], out: &mut [u8], at: usize) -> usize {
     match only(line, data) {
         Bytes::Are(n) => {
-            let answer = tlv::read::read(front(data, n));
+            let answer = reader::read(front(data, n));
             crate::answers::taken(out, at, answer)
         }
         Bytes::Bad => bad_line(out, at),
@@ -252,7 +252,7 @@ fn short(n: u64) -> u16 {
 
 // The whole room is shown, as it is after an accepted write.
 fn wrote(fields: Fields, room: &mut [u8], out: &mut [u8], at: usize) -> usize {
-    match tlv::write::write(fields, room) {
+    match writer::write(fields, room) {
         Written::Is(_) => {
             let to = text::text(out, at, b"wrote ");
             let past = hex(out, to, room);
@@ -329,12 +329,7 @@ fn signature(line: &[u8], out: &mut [u8], at: usize) -> usize {
     if over(65_535, a, 0, 4) {
         return bad_line(out, at);
     }
-    let shown = reading::signature::signature_of(
-        short(a.n[0]),
-        short(a.n[1]),
-        short(a.n[2]),
-        short(a.n[3]),
-    );
+    let shown = signature::signature_of(short(a.n[0]), short(a.n[1]), short(a.n[2]), short(a.n[3]));
     crate::answers::signature(out, at, shown)
 }
 
@@ -346,7 +341,7 @@ fn class(line: &[u8], out: &mut [u8], at: usize) -> usize {
     if over(65_535, a, 0, 2) {
         return bad_line(out, at);
     }
-    let shown = reading::class::class_of_two(short(a.n[0]), short(a.n[1]));
+    let shown = class::class_of_two(short(a.n[0]), short(a.n[1]));
     crate::answers::class(out, at, shown)
 }
 

@@ -2,8 +2,8 @@
 -- Assumes nothing.
 use mathlib.Core.Path.{_≡_, refl}
 use Rattle.power.specs.declared.Power.{Power}
-use Rattle.words.specs.Laws.{join-none}
-use Rattle.words.specs.Status.{join}
+use Rattle.status.specs.Laws.{join-none}
+use Rattle.status.specs.Status.{join}
 use Rattle.port.specs.Entry.{enter}
 use Rattle.port.specs.declared.form.Moved.{Moved}
 use Rattle.port.specs.declared.form.Port.{Port}

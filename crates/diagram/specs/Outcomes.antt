@@ -6,7 +6,8 @@ use mathlib.Core.Path.{_≡_, refl}
 use mathlib.Core.Bool.{true, cond, not, _&&_}
 use Rattle.lists.specs.Tests.{choice}
 use Rattle.power.specs.declared.Power.{Power}
-use Rattle.words.specs.Control.{enableOf, pairOf, isOff, isOn, isForced}
+use Rattle.control.specs.Control.{enableOf, pairOf}
+use Rattle.enable.specs.Enable.{isOff, isOn, isForced}
 use Rattle.port.specs.declared.form.Classing.{Classing}
 use Rattle.port.specs.declared.form.Classing.the-variants.{NotDone as NotClassed, Failed, Is}
 use Rattle.port.specs.declared.form.Counts.{Counts}

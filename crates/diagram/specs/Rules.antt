@@ -4,9 +4,10 @@ use Prim.Native.Nat.{ℕ}
 use mathlib.Core.Bool.{Bool, true, false, cond, not}
 use lib.Dec.{leb}
 use Rattle.power.specs.declared.Power.{Power}
-use Rattle.words.specs.Control.{enableOf, pairOf, isOn, isForced}
-use Rattle.words.specs.declared.control.Pair.{Pair}
-use Rattle.words.specs.declared.control.Pair.the-variants.{Neither, A, B, Both}
+use Rattle.control.specs.Control.{enableOf, pairOf}
+use Rattle.enable.specs.Enable.{isOn, isForced}
+use Rattle.control.specs.declared.Pair.{Pair}
+use Rattle.control.specs.declared.Pair.the-variants.{Neither, A, B, Both}
 use Rattle.port.specs.declared.form.Counts.{Counts}
 use Rattle.port.specs.declared.form.Port.{Port}
 use Rattle.port.specs.declared.form.State.the-variants.{Idle, Detecting, Backoff, Classifying, PowerOn, ErrorDelay, TestError}

@@ -1,7 +1,8 @@
 -- Document 01, "The port's move in one tick": the two enable rules, and then the rule of the port's state.
 use mathlib.Core.Bool.{cond, _&&_}
 use Rattle.power.specs.declared.Power.{Power}
-use Rattle.words.specs.Control.{enableOf, isOff, isForced}
+use Rattle.control.specs.Control.{enableOf}
+use Rattle.enable.specs.Enable.{isOff, isForced}
 use Rattle.port.specs.declared.form.State.{State}
 use Rattle.port.specs.declared.form.State.the-variants.{Disabled, Idle, Detecting, Backoff, Classifying, PowerUp, PowerOn, ErrorDelay, TestMode, TestError}
 use Rattle.port.specs.declared.form.Port.{Port}

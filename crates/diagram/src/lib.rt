@@ -2,6 +2,10 @@
 pub mod limits;
 mod rules;
 
+use control::Enable;
+use control::enable_of;
+use enable::is_forced;
+use enable::is_off;
 use port::entry::enter;
 use port::entry::quietly;
 use port::form::Moved;
@@ -9,13 +13,9 @@ use port::form::Port;
 use port::form::Reading;
 use port::form::State;
 use power::Power;
-use words::control::Enable;
-use words::control::enable_of;
-use words::enable::is_forced;
-use words::enable::is_off;
 ghost use mathlib.Core.Path.{_≡_};
 ghost use mathlib.Core.Bool.{_&&_};
-ghost use Rattle.words.specs.Control.{isForced};
+ghost use Rattle.enable.specs.Enable.{isForced};
 ghost use Rattle.port.specs.States.{givesWay};
 ghost use Rattle.diagram.specs.Step.{byState, step};
 

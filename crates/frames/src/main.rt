@@ -1,11 +1,11 @@
 // Reads records, each a kind, a length of two bytes and so many bytes, and writes what the power TLV's search, reader and writer
 // answer, a line for each.
-use tlv::fields::Added;
-use tlv::fields::Fields;
-use tlv::fields::Form;
-use tlv::read::Taken;
-use tlv::search::Searched;
-use tlv::write::Written;
+use fields::Added;
+use fields::Fields;
+use fields::Form;
+use reader::Taken;
+use search::Searched;
+use writer::Written;
 
 fn number(n: u64) {
     io::print_decimal(1, n);
@@ -36,9 +36,9 @@ fn show_room(room: &[u8; 16]) {
 
 fn lend(fields: Fields, room: &mut [u8], lent: usize) -> Written {
     if room.len() < lent {
-        return tlv::write::write(fields, room);
+        return writer::write(fields, room);
     }
-    tlv::write::write(fields, &mut room[..lent])
+    writer::write(fields, &mut room[..lent])
 }
 
 fn give(fields: Fields, lent: u8) {
@@ -72,7 +72,7 @@ fn show_form(form: Form) {
 
 // The fields, and what they are when written back.
 fn take(part: &[u8]) {
-    let taken = tlv::read::read(part);
+    let taken = reader::read(part);
     match taken {
         Taken::Is(fields) => {
             number(fields.support as u64);
@@ -88,13 +88,13 @@ fn take(part: &[u8]) {
 }
 
 fn find(pdu: &[u8]) {
-    let found = tlv::search::search(pdu);
+    let found = search::search(pdu);
     match found {
         Searched::Is(at, size) => {
             io::write_all(1, b"at ");
             number(at as u64);
             number(size as u64);
-            take(tlv::search::part(pdu, at, size));
+            take(search::part(pdu, at, size));
         }
         Searched::Refused(k) => {
             refused(k);
@@ -104,7 +104,7 @@ fn find(pdu: &[u8]) {
 }
 
 fn place(pdu: &[u8]) {
-    let found = tlv::search::search(pdu);
+    let found = search::search(pdu);
     match found {
         Searched::Is(at, size) => {
             io::write_all(1, b"at ");
@@ -119,7 +119,7 @@ fn place(pdu: &[u8]) {
 fn find_cut(pdu: &[u8]) {
     let mut n = 0;
     while n < pdu.len() {
-        place(tlv::search::part(pdu, 0, n));
+        place(search::part(pdu, 0, n));
         n += 1;
     }
     end_line();

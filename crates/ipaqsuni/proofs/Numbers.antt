@@ -10,14 +10,14 @@ use lib.ListN.{getD}
 use borrow.Author.Tests.{le-ltb, ltb-false}
 use Rattle.lists.specs.Bits.{field}
 use Rattle.lists.specs.Ladder.{ladder-value}
-use Rattle.tlv.specs.Fields.{outside, badValues}
-use Rattle.tlv.specs.Header.{lengthAt}
-use Rattle.tlv.specs.Read.{addedIn, formIn, fieldsIn, readRefusals, readOf}
-use Rattle.tlv.specs.Write.{writtenOf, roomAfter}
-use Rattle.tlv.specs.declared.fields.Fields.{Fields}
-use Rattle.tlv.specs.declared.fields.Form.the-variants.{Short, Long}
-use Rattle.tlv.specs.declared.read.Taken.the-variants.{Is as Took, Refused as NotTaken}
-use Rattle.tlv.specs.declared.write.Written.the-variants.{Is as Wrote, Refused as NotWritten}
+use Rattle.fields.specs.Fields.{outside, badValues}
+use Rattle.header.specs.Header.{lengthAt}
+use Rattle.reader.specs.Read.{addedIn, formIn, fieldsIn, readRefusals, readOf}
+use Rattle.writer.specs.Write.{writtenOf, roomAfter}
+use Rattle.fields.specs.declared.Fields.{Fields}
+use Rattle.fields.specs.declared.Form.the-variants.{Short, Long}
+use Rattle.reader.specs.declared.Taken.the-variants.{Is as Took, Refused as NotTaken}
+use Rattle.writer.specs.declared.Written.the-variants.{Is as Wrote, Refused as NotWritten}
 use Rattle.ipaqsuni.specs.Outcome.{refused, accepted}
 use Rattle.ipaqsuni.specs.Tlv.{Narrow, noForm, noFields, fieldsGiven, writeCall}
 

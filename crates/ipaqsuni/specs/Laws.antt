@@ -45,12 +45,12 @@ use Rattle.tick.specs.Tick.{movedAt, tickRefusals, tick}
 use Rattle.image.specs.Image.{imageOf, imageable, saves, roomAfter}
 use Rattle.image.specs.Laws.{image-reads, table-ports, saved-restored, restored-saves, restored-saved}
 use Rattle.image.specs.Load.{portIn, tableIn, reads, restores, cellsRestored}
-use Rattle.tlv.specs.Read.{readRefusals, readOf}
-use Rattle.tlv.specs.Search.{searchRefusals, searchOf}
-use Rattle.tlv.specs.Write.{writeRefusals, writtenOf, roomAfter as tlvAfter}
-use Rattle.tlv.specs.declared.read.Taken.the-variants.{Refused as NotTaken}
-use Rattle.tlv.specs.declared.search.Searched.the-variants.{Refused as NotFound}
-use Rattle.tlv.specs.declared.write.Written.the-variants.{Refused as NotWritten}
+use Rattle.reader.specs.Read.{readRefusals, readOf}
+use Rattle.search.specs.Search.{searchRefusals, searchOf}
+use Rattle.writer.specs.Write.{writeRefusals, writtenOf, roomAfter as tlvAfter}
+use Rattle.reader.specs.declared.Taken.the-variants.{Refused as NotTaken}
+use Rattle.search.specs.declared.Searched.the-variants.{Refused as NotFound}
+use Rattle.writer.specs.declared.Written.the-variants.{Refused as NotWritten}
 use Rattle.ipaqsuni.specs.Calls.{answerNumber, statusNumber, wordLeft, tickNumber, maskALeft, maskBLeft, closedLeft, saveNumber, restoreNumber}
 use Rattle.ipaqsuni.specs.Outcome.{Outcome, refused, accepted, numberOf, leaves}
 use Rattle.ipaqsuni.specs.Tlv.{ofSearch, ofRead, ofWrite, findCall, readCall, noFields, fieldsGiven, writeCall}

@@ -5,18 +5,18 @@ use mathlib.Core.Bool.{Bool, cond, _||_, not}
 use mathlib.Core.List.{List, [], _∷_}
 use lib.Dec.{eqb, ltb}
 use lib.ListN.{getD}
-use Rattle.tlv.specs.Read.{readOf}
-use Rattle.tlv.specs.Search.{searchOf}
-use Rattle.tlv.specs.Write.{writtenOf, roomAfter}
-use Rattle.tlv.specs.declared.fields.Fields.{Fields}
-use Rattle.tlv.specs.declared.fields.Form.{Form}
-use Rattle.tlv.specs.declared.fields.Form.the-variants.{Short, Long}
-use Rattle.tlv.specs.declared.read.Taken.{Taken}
-use Rattle.tlv.specs.declared.read.Taken.the-variants.{Is as Took, Refused as NotTaken}
-use Rattle.tlv.specs.declared.search.Searched.{Searched}
-use Rattle.tlv.specs.declared.search.Searched.the-variants.{Is as Found, Refused as NotFound}
-use Rattle.tlv.specs.declared.write.Written.{Written}
-use Rattle.tlv.specs.declared.write.Written.the-variants.{Is as Wrote, Refused as NotWritten}
+use Rattle.reader.specs.Read.{readOf}
+use Rattle.search.specs.Search.{searchOf}
+use Rattle.writer.specs.Write.{writtenOf, roomAfter}
+use Rattle.fields.specs.declared.Fields.{Fields}
+use Rattle.fields.specs.declared.Form.{Form}
+use Rattle.fields.specs.declared.Form.the-variants.{Short, Long}
+use Rattle.reader.specs.declared.Taken.{Taken}
+use Rattle.reader.specs.declared.Taken.the-variants.{Is as Took, Refused as NotTaken}
+use Rattle.search.specs.declared.Searched.{Searched}
+use Rattle.search.specs.declared.Searched.the-variants.{Is as Found, Refused as NotFound}
+use Rattle.writer.specs.declared.Written.{Written}
+use Rattle.writer.specs.declared.Written.the-variants.{Is as Wrote, Refused as NotWritten}
 use Rattle.ipaqsuni.specs.Outcome.{Outcome, refused, accepted}
 
 -- the part of a PDU that is its power TLV

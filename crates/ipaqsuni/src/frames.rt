@@ -1,10 +1,10 @@
 // The calls on a PDU and on a power TLV, whose fields are nine numbers.
-use tlv::fields::Added;
-use tlv::fields::Fields;
-use tlv::fields::Form;
-use tlv::read::Taken;
-use tlv::search::Searched;
-use tlv::write::Written;
+use fields::Added;
+use fields::Fields;
+use fields::Form;
+use reader::Taken;
+use search::Searched;
+use writer::Written;
 ghost use mathlib.Core.Path.{_≡_};
 ghost use mathlib.Core.Bool.{false};
 ghost use Prim.Native.Nat.{_<_};
@@ -17,7 +17,7 @@ pub extern "C" fn ipaqsuni_find_power_tlv(pdu: &[u8], offset: &mut u64, length: 
     ensures { λ _. ⌜ now (offset .exit) ≡ leaves offsetFound (findCall (now (pdu .entry))) (now (offset .entry)) ⌝ }
     ensures { λ _. ⌜ now (length .exit) ≡ leaves sizeFound (findCall (now (pdu .entry))) (now (length .entry)) ⌝ }
 {
-    match tlv::search::search(pdu) {
+    match search::search(pdu) {
         Searched::Is(at, size) => {
             *offset = at as u64;
             *length = size as u64;
@@ -56,7 +56,7 @@ pub extern "C" fn ipaqsuni_read_power_tlv(tlv: &[u8], fields: &mut [u32; 9]) -> 
     ensures { λ r. ⌜ r ≡ numberOf (readCall (now (tlv .entry))) ⌝ }
     ensures { λ _. ⌜ now (fields .exit) ≡ leaves numbersOf (readCall (now (tlv .entry))) (now (fields .entry)) ⌝ }
 {
-    match tlv::read::read(tlv) {
+    match reader::read(tlv) {
         Taken::Is(taken) => {
             *fields = numbers_of(taken);
             0
@@ -144,7 +144,7 @@ pub extern "C" fn ipaqsuni_write_power_tlv(
     if no_fields(fields) {
         return 3;
     }
-    match tlv::write::write(fields_given(fields), room) {
+    match writer::write(fields_given(fields), room) {
         Written::Is(size) => {
             *written = size as u64;
             0

@@ -1,3 +1,3 @@
-// The core for C and for whatever calls as C does. The table is an image that the caller owns; a refusal writes no byte anywhere.
+// The core for C and for whatever calls as C does. The table is cells that the caller lends; a refusal writes no cell and no byte anywhere.
 pub mod frames;
 pub mod tables;

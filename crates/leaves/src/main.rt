@@ -1,12 +1,12 @@
 // Reads records of 16 bytes, a port's sample and a control word, and writes a line of numbers for each: what the leaves answer.
+use class::Class;
 use power::Power;
-use reading::class::Class;
-use reading::sample::Flags;
-use reading::sample::Sample;
-use reading::sample::Sampled;
-use reading::signature::Signature;
-use words::status::Condition;
-use words::status::Latches;
+use sample::Flags;
+use sample::Sample;
+use sample::Sampled;
+use signature::Signature;
+use status::Condition;
+use status::Latches;
 
 fn number(n: u64) {
     io::print_decimal(1, n);
@@ -19,7 +19,7 @@ fn yes(b: bool) {
 
 // 0 valid, 1 invalid, 2 open.
 fn signature(s: Sample) {
-    let shown = reading::signature::signature_of(s.v1, s.v2, s.i1, s.i2);
+    let shown = signature::signature_of(s.v1, s.v2, s.i1, s.i2);
     match shown {
         Signature::Valid => number(0),
         Signature::Invalid => number(1),
@@ -29,11 +29,11 @@ fn signature(s: Sample) {
 
 // The class and its budget; 9 and no budget for a failure.
 fn class(s: Sample) {
-    let read = reading::class::class_of_two(s.c1, s.c2);
+    let read = class::class_of_two(s.c1, s.c2);
     match read {
         Class::Is(k) => {
             number(k as u64);
-            number(reading::class::budget(k).0 as u64);
+            number(class::budget(k).0 as u64);
         }
         Class::Failure => {
             number(9);
@@ -43,8 +43,8 @@ fn class(s: Sample) {
 }
 
 fn flags(s: Sample) {
-    yes(reading::sample::reserved_flags(s.flags));
-    let f = reading::sample::flags_of(s.flags);
+    yes(sample::reserved_flags(s.flags));
+    let f = sample::flags_of(s.flags);
     yes(f.detection_done);
     yes(f.class_done);
     yes(f.settled);
@@ -70,13 +70,13 @@ fn status(f: Flags, word: u16) {
         overload: f.overload,
         absent: f.load,
     };
-    number(words::status::status_word(latches, (word % 5) as u8, condition) as u64);
+    number(status::status_word(latches, (word % 5) as u8, condition) as u64);
 }
 
 fn control(word: u16) {
-    yes(words::control::refused(word as u64));
-    number(words::control::word_of(words::control::control_of(word)) as u64);
-    yes(reading::class::is_demand(Power(word)));
+    yes(control::refused(word as u64));
+    number(control::word_of(control::control_of(word)) as u64);
+    yes(class::is_demand(Power(word)));
 }
 
 fn joined(high: u8, low: u8) -> u16 {
@@ -84,7 +84,7 @@ fn joined(high: u8, low: u8) -> u16 {
 }
 
 fn show(record: &[u8]) {
-    let first = reading::sample::sample_of(record, 0);
+    let first = sample::sample_of(record, 0);
     if let Sampled::Is(s) = first {
         signature(s);
         class(s);
@@ -92,7 +92,7 @@ fn show(record: &[u8]) {
         if 16 <= record.len() {
             let word = joined(record[14], record[15]);
             control(word);
-            status(reading::sample::flags_of(s.flags), word);
+            status(sample::flags_of(s.flags), word);
         }
     }
     io::write_all(1, b"\n");

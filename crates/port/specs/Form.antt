@@ -2,8 +2,8 @@
 use Prim.Native.Nat.{ℕ}
 use mathlib.Core.Bool.{true, false}
 use Rattle.power.specs.declared.Power.{Power}
-use Rattle.words.specs.Status.{noLatches, join}
-use Rattle.words.specs.declared.status.Latches.{Latches}
+use Rattle.status.specs.Status.{noLatches, join}
+use Rattle.status.specs.declared.Latches.{Latches}
 use Rattle.port.specs.declared.form.State.{State}
 use Rattle.port.specs.declared.form.Counts.{Counts}
 use Rattle.port.specs.declared.form.Port.{Port}

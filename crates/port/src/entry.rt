@@ -4,7 +4,7 @@ use crate::form::Moved;
 use crate::form::Port;
 use crate::form::State;
 use power::Power;
-use words::status::Latches;
+use status::Latches;
 ghost use mathlib.Core.Path.{_≡_};
 ghost use Rattle.port.specs.Form.{quietly, latching, asking};
 ghost use Rattle.port.specs.Entry.{up, during, countsOnEntry, demandOnEntry, enter};

@@ -1,6 +1,6 @@
 // What a port is, what a tick is told of it, and what its move answers.
 use power::Power;
-use words::status::Latches;
+use status::Latches;
 
 pub enum State {
     Disabled,

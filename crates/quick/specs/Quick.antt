@@ -9,9 +9,10 @@ use borrow.Author.Tests.{not-true, eqb-true}
 use Rattle.lists.specs.Tests.{and-left, and-right}
 use Rattle.power.specs.Power.{zeroPower, same}
 use Rattle.power.specs.declared.Power.{Power}
-use Rattle.words.specs.Control.{enableOf, isOff, isOn, isForced}
-use Rattle.words.specs.declared.control.Enable.{Enable}
-use Rattle.words.specs.declared.control.Enable.the-variants.{Disabled as Off, Enabled, Forced, Reserved}
+use Rattle.control.specs.Control.{enableOf}
+use Rattle.enable.specs.Enable.{isOff, isOn, isForced}
+use Rattle.control.specs.declared.Enable.{Enable}
+use Rattle.control.specs.declared.Enable.the-variants.{Disabled as Off, Enabled, Forced, Reserved}
 use Rattle.port.specs.declared.form.Classing.{Classing}
 use Rattle.port.specs.declared.form.Classing.the-variants.{NotDone as NotClassed, Failed, Is}
 use Rattle.port.specs.declared.form.Counts.{Counts}

@@ -16,8 +16,8 @@ use Rattle.lists.specs.Every.{someBelow}
 use Rattle.lists.specs.Places.{tabulate}
 use Rattle.lists.specs.Tests.{and-left, and-right}
 use Rattle.power.specs.Power.{tenths, same}
-use Rattle.words.specs.declared.control.Enable.{Enable}
-use Rattle.words.specs.declared.control.Enable.the-variants.{Disabled as Off, Enabled, Forced, Reserved}
+use Rattle.control.specs.declared.Enable.{Enable}
+use Rattle.control.specs.declared.Enable.the-variants.{Disabled as Off, Enabled, Forced, Reserved}
 use Rattle.port.specs.Entry.{up, during}
 use Rattle.port.specs.Form.{detectionAt, backoffAt, errorDelayAt, powerOnAt, limitingAt, overloadAt, noLoadAt}
 use Rattle.port.specs.States.{codeOf}

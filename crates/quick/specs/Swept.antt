@@ -12,9 +12,9 @@ use lib.ListN.{length, getD}
 use Rattle.lists.specs.Bits.{choose, field-low}
 use Rattle.power.specs.Power.{tenths}
 use Rattle.power.specs.declared.Power.{Power}
-use Rattle.words.specs.Control.{enableOf}
-use Rattle.words.specs.declared.control.Enable.{Enable}
-use Rattle.words.specs.declared.control.Enable.the-variants.{Disabled as Off, Enabled, Forced, Reserved}
+use Rattle.control.specs.Control.{enableOf}
+use Rattle.control.specs.declared.Enable.{Enable}
+use Rattle.control.specs.declared.Enable.the-variants.{Disabled as Off, Enabled, Forced, Reserved}
 use Rattle.port.specs.Form.{withCounts, quietly}
 use Rattle.port.specs.declared.form.Counts.{Counts}
 use Rattle.port.specs.declared.form.Port.{Port}

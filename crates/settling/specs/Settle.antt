@@ -2,9 +2,9 @@
 use Prim.Native.Nat.{ℕ, _+_}
 use mathlib.Core.Bool.{Bool, cond, _&&_}
 use lib.Dec.{leb}
-use Rattle.words.specs.Control.{priorityOf}
-use Rattle.words.specs.declared.control.Priority.{Priority}
-use Rattle.words.specs.declared.control.Priority.the-variants.{Unknown, Critical, High, Low}
+use Rattle.control.specs.Control.{priorityOf}
+use Rattle.control.specs.declared.Priority.{Priority}
+use Rattle.control.specs.declared.Priority.the-variants.{Unknown, Critical, High, Low}
 use Rattle.port.specs.declared.form.State.{State}
 use Rattle.port.specs.declared.form.State.the-variants.{Disabled, Idle, Detecting, Backoff, Classifying, PowerUp, PowerOn, ErrorDelay, TestMode, TestError}
 use Rattle.port.specs.declared.form.Port.{Port}

@@ -1,4 +1,6 @@
 // What the sharing of the supply asks of a port, and what it does to it.
+use control::Priority;
+use control::priority_of;
 use port::closed::is_closed;
 use port::entry::enter;
 use port::entry::latching;
@@ -7,9 +9,7 @@ use port::form::Moved;
 use port::form::Port;
 use port::form::State;
 use share::NO_CLAIM;
-use words::control::Priority;
-use words::control::priority_of;
-use words::status::Latches;
+use status::Latches;
 ghost use mathlib.Core.Path.{_≡_};
 ghost use Prim.Native.Nat.{_<_};
 ghost use Rattle.settling.specs.Claim.{rankIn, settledAs};

@@ -11,10 +11,10 @@ use Rattle.lists.specs.Every.{someBelow}
 use Rattle.lists.specs.Table.{some}
 use Rattle.lists.specs.Total.{total}
 use Rattle.power.specs.Power.{tenths, over, fits}
-use Rattle.reading.specs.Class.{budgetOf, isDemand}
-use Rattle.reading.specs.Sample.{wordAt, sampleAt, reservedFlags}
-use Rattle.words.specs.Control.{refused}
-use Rattle.words.specs.Status.{noLatches, statusWord}
+use Rattle.class.specs.Class.{budgetOf, isDemand}
+use Rattle.sample.specs.Sample.{wordAt, sampleAt, reservedFlags}
+use Rattle.control.specs.Control.{refused}
+use Rattle.status.specs.Status.{noLatches, statusWord}
 use Rattle.port.specs.declared.form.Counts.{Counts}
 use Rattle.port.specs.declared.form.Port.{Port}
 use Rattle.port.specs.declared.form.State.{State}

@@ -6,15 +6,15 @@ use mathlib.Core.Bool.{true, false}
 use mathlib.Core.List.{List, [], _∷_}
 use Rattle.lists.specs.Places.{tabulate}
 use Rattle.lists.specs.Total.{total}
-use Rattle.reading.specs.Class.{classOf}
-use Rattle.reading.specs.Signature.{outside, byDifferences, signatureOf}
-use Rattle.reading.specs.declared.class.Class.the-variants.{Is, Failure}
-use Rattle.reading.specs.declared.signature.Signature.the-variants.{Valid, Invalid, Open}
+use Rattle.class.specs.Class.{classOf}
+use Rattle.signature.specs.Signature.{outside, byDifferences, signatureOf}
+use Rattle.class.specs.declared.Class.the-variants.{Is, Failure}
+use Rattle.signature.specs.declared.Signature.the-variants.{Valid, Invalid, Open}
 use Rattle.share.specs.Cases.{threeKept}
 use Rattle.share.specs.Share.{claims, before, met, sumWhere, down, keeps}
-use Rattle.tlv.specs.Search.{isCut, powers, searchOf}
-use Rattle.tlv.specs.Walk.{walk, walkFrom}
-use Rattle.tlv.specs.declared.search.Searched.the-variants.{Refused}
+use Rattle.search.specs.Search.{isCut, powers, searchOf}
+use Rattle.walk.specs.Walk.{walk, walkFrom}
+use Rattle.search.specs.declared.Searched.the-variants.{Refused}
 use Rattle.statements.specs.Rows.{Row, Holds, meaning, differences, class, sharing, pdu, shows, is-class, stay, searched}
 
 pub cases : List Row

@@ -3,14 +3,14 @@
 use Prim.Native.Nat.{ℕ, _*_}
 use mathlib.Core.Bool.{Bool, true, false, cond, _&&_}
 use mathlib.Core.List.{List, [], _∷_}
-use Rattle.reading.specs.Class.{classOfTwo}
-use Rattle.reading.specs.Sample.{sampleAt, flagsOf}
-use Rattle.reading.specs.Signature.{signatureOf}
-use Rattle.reading.specs.declared.class.Class.{Class}
-use Rattle.reading.specs.declared.class.Class.the-variants.{Is, Failure}
-use Rattle.reading.specs.declared.sample.Sample.{Sample}
-use Rattle.reading.specs.declared.signature.Signature.{Signature}
-use Rattle.reading.specs.declared.signature.Signature.the-variants.{Valid, Invalid, Open}
+use Rattle.class.specs.Class.{classOfTwo}
+use Rattle.sample.specs.Sample.{sampleAt, flagsOf}
+use Rattle.signature.specs.Signature.{signatureOf}
+use Rattle.class.specs.declared.Class.{Class}
+use Rattle.class.specs.declared.Class.the-variants.{Is, Failure}
+use Rattle.sample.specs.declared.Sample.{Sample}
+use Rattle.signature.specs.declared.Signature.{Signature}
+use Rattle.signature.specs.declared.Signature.the-variants.{Valid, Invalid, Open}
 use Rattle.port.specs.States.{isIdle}
 use Rattle.calls.specs.Calls.{coldStart, writeControl, readStatus, request}
 use Rattle.table.specs.Form.{portAt}

@@ -13,9 +13,9 @@ use Rattle.lists.specs.Bits.{field, above}
 use Rattle.lists.specs.Table.{some}
 use Rattle.power.specs.Power.{forced, atMost, highestSupply}
 use Rattle.power.specs.declared.Power.{Power}
-use Rattle.reading.specs.Class.{isDemand}
-use Rattle.reading.specs.Sample.{sampleAt}
-use Rattle.words.specs.Control.{refused}
+use Rattle.class.specs.Class.{isDemand}
+use Rattle.sample.specs.Sample.{sampleAt}
+use Rattle.control.specs.Control.{refused}
 use Rattle.port.specs.States.{closed}
 use Rattle.port.specs.declared.form.Port.{Port}
 use Rattle.diagram.specs.Open.{open-stays}

@@ -8,18 +8,18 @@ use Rattle.lists.specs.Bits.{bit, field, above}
 use Rattle.lists.specs.Table.{some}
 use Rattle.power.specs.Power.{tenths, supplyOf}
 use Rattle.power.specs.declared.Supply.the-variants.{Is as Supply-Is, TooLarge}
-use Rattle.reading.specs.Class.{classOf, isFour, classOfTwo, budgetOf, isDemand}
-use Rattle.reading.specs.Sample.{wordAt, sampleAt, sampleOf, flagsOf, reservedFlags}
-use Rattle.reading.specs.Signature.{outside, byDifferences, signatureOf}
-use Rattle.reading.specs.declared.class.Class.the-variants.{Is, Failure}
-use Rattle.reading.specs.declared.sample.Sampled.the-variants.{Is as Whole, Cut}
-use Rattle.reading.specs.declared.signature.Signature.the-variants.{Valid, Invalid, Open}
-use Rattle.words.specs.Control.{enableOf, pairOf, priorityOf, controlOf, refused}
-use Rattle.words.specs.Status.{statusWord}
-use Rattle.words.specs.declared.control.Enable.the-variants.{Disabled, Enabled, Forced, Reserved}
-use Rattle.words.specs.declared.control.Pair.the-variants.{Neither, A, B, Both}
-use Rattle.words.specs.declared.control.Priority.the-variants.{Unknown, Critical, High, Low}
-use Rattle.words.specs.declared.status.Condition.the-variants.{Disabled as Off, Searching, Delivering, Testing, Faulty}
+use Rattle.class.specs.Class.{classOf, isFour, classOfTwo, budgetOf, isDemand}
+use Rattle.sample.specs.Sample.{wordAt, sampleAt, sampleOf, flagsOf, reservedFlags}
+use Rattle.signature.specs.Signature.{outside, byDifferences, signatureOf}
+use Rattle.class.specs.declared.Class.the-variants.{Is, Failure}
+use Rattle.sample.specs.declared.Sampled.the-variants.{Is as Whole, Cut}
+use Rattle.signature.specs.declared.Signature.the-variants.{Valid, Invalid, Open}
+use Rattle.control.specs.Control.{enableOf, pairOf, priorityOf, controlOf, refused}
+use Rattle.status.specs.Status.{statusWord}
+use Rattle.control.specs.declared.Enable.the-variants.{Disabled, Enabled, Forced, Reserved}
+use Rattle.control.specs.declared.Pair.the-variants.{Neither, A, B, Both}
+use Rattle.control.specs.declared.Priority.the-variants.{Unknown, Critical, High, Low}
+use Rattle.status.specs.declared.Condition.the-variants.{Disabled as Off, Searching, Delivering, Testing, Faulty}
 use Rattle.statements.specs.Rows.{Row, Holds, meaning, signature, voltage, class, two-currents, budget-of, demand, sample, flags-of, flags-reserved, refusal-3, fields, status, supply, forced-claim, shows, is-class, power, sampled, flags, control, figure, word, test}
 
 -- each voltage limit of the signature, the least dV, and currents that stand still or fall

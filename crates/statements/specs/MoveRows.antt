@@ -9,9 +9,9 @@ use Rattle.lists.specs.Bits.{field}
 use Rattle.lists.specs.Count.{mask}
 use Rattle.lists.specs.Total.{total}
 use Rattle.power.specs.Power.{tenths, forced}
-use Rattle.words.specs.Control.{enableOf, pairOf, priorityOf}
-use Rattle.words.specs.Status.{noLatches, join}
-use Rattle.words.specs.declared.status.Latches.{Latches}
+use Rattle.control.specs.Control.{enableOf, pairOf, priorityOf}
+use Rattle.status.specs.Status.{noLatches, join}
+use Rattle.status.specs.declared.Latches.{Latches}
 use Rattle.port.specs.Entry.{up, during, enter}
 use Rattle.port.specs.Form.{latchDenied, latchValid, latchInvalid, latchShort, latchOverload, latchAbsent}
 use Rattle.diagram.specs.Rules.{idle, detected, detecting, backoff, errorDelay, classed, classifying, stressed, watched, risen, powerUp, powerOn, testMode, testError}

@@ -13,9 +13,9 @@ use Rattle.lists.specs.Table.{some}
 use Rattle.lists.specs.Tests.{choice}
 use Rattle.power.specs.Power.{tenths, atMost, highestSupply}
 use Rattle.power.specs.declared.Power.{Power}
-use Rattle.words.specs.Laws.{join-none}
-use Rattle.words.specs.Status.{join}
-use Rattle.reading.specs.Class.{isDemand}
+use Rattle.status.specs.Laws.{join-none}
+use Rattle.status.specs.Status.{join}
+use Rattle.class.specs.Class.{isDemand}
 use Rattle.port.specs.Entry.{enter}
 use Rattle.port.specs.Form.{withDemand, quietly, asking}
 use Rattle.port.specs.States.{closed}

@@ -11,8 +11,8 @@ use borrow.Author.Tests.{leb-false, ltb-false, le-leb, le-ltb, ne-eqb}
 use Rattle.lists.specs.Ladder.{ladder-holds}
 use Rattle.lists.specs.Tests.{choice-on}
 use Rattle.power.specs.Power.{forced, tenths, highestSupply, atMost}
-use Rattle.reading.specs.Laws.{budget-is-demand}
-use Rattle.reading.specs.Sample.{sampleAt}
+use Rattle.class.specs.Laws.{budget-is-demand}
+use Rattle.sample.specs.Sample.{sampleAt}
 use Rattle.settling.specs.Settle.{settled}
 use Rattle.diagram.specs.Step.{step}
 use Rattle.port.specs.declared.form.Port.{Port}

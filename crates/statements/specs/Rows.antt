@@ -7,21 +7,21 @@ use mathlib.Core.List.{List, map}
 use Rattle.power.specs.Power.{forced, supplyOf, tenths}
 use Rattle.power.specs.declared.Power.{Power}
 use Rattle.power.specs.declared.Supply.{Supply}
-use Rattle.reading.specs.Class.{classOf, classOfTwo, budgetOf, isDemand}
-use Rattle.reading.specs.Sample.{sampleOf, flagsOf, reservedFlags}
-use Rattle.reading.specs.Signature.{outside, signatureOf}
-use Rattle.reading.specs.declared.class.Class.{Class}
-use Rattle.reading.specs.declared.sample.Sampled.{Sampled}
-use Rattle.reading.specs.declared.sample.Flags.{Flags}
-use Rattle.reading.specs.declared.signature.Signature.{Signature}
+use Rattle.class.specs.Class.{classOf, classOfTwo, budgetOf, isDemand}
+use Rattle.sample.specs.Sample.{sampleOf, flagsOf, reservedFlags}
+use Rattle.signature.specs.Signature.{outside, signatureOf}
+use Rattle.class.specs.declared.Class.{Class}
+use Rattle.sample.specs.declared.Sampled.{Sampled}
+use Rattle.sample.specs.declared.Flags.{Flags}
+use Rattle.signature.specs.declared.Signature.{Signature}
 use Rattle.share.specs.Cases.{threeKept}
-use Rattle.tlv.specs.Search.{searchOf}
-use Rattle.tlv.specs.declared.search.Searched.{Searched}
-use Rattle.words.specs.Control.{controlOf, refused}
-use Rattle.words.specs.Status.{statusWord}
-use Rattle.words.specs.declared.control.Control.{Control}
-use Rattle.words.specs.declared.status.Condition.{Condition}
-use Rattle.words.specs.declared.status.Latches.{Latches}
+use Rattle.search.specs.Search.{searchOf}
+use Rattle.search.specs.declared.Searched.{Searched}
+use Rattle.control.specs.Control.{controlOf, refused}
+use Rattle.status.specs.Status.{statusWord}
+use Rattle.control.specs.declared.Control.{Control}
+use Rattle.status.specs.declared.Condition.{Condition}
+use Rattle.status.specs.declared.Latches.{Latches}
 
 pub data Question : Type 0 where
   -- "dV/dI, V1 = 4,000". The document leaves I1 open; here it is 1,000

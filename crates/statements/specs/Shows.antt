@@ -9,14 +9,14 @@ use Rattle.lists.specs.Bits.{bit}
 use Rattle.lists.specs.Tests.{choice}
 use Rattle.power.specs.Power.{forced}
 use Rattle.power.specs.declared.Power.{Power}
-use Rattle.reading.specs.Class.{classOfTwo}
-use Rattle.reading.specs.Sample.{flagsOf}
-use Rattle.reading.specs.Signature.{signatureOf}
-use Rattle.reading.specs.declared.class.Class.{Class}
-use Rattle.reading.specs.declared.class.Class.the-variants.{Is as ClassIs, Failure}
-use Rattle.reading.specs.declared.sample.Sample.{Sample}
-use Rattle.reading.specs.declared.signature.Signature.{Signature}
-use Rattle.reading.specs.declared.signature.Signature.the-variants.{Valid as SigValid, Invalid as SigInvalid, Open as SigOpen}
+use Rattle.class.specs.Class.{classOfTwo}
+use Rattle.sample.specs.Sample.{flagsOf}
+use Rattle.signature.specs.Signature.{signatureOf}
+use Rattle.class.specs.declared.Class.{Class}
+use Rattle.class.specs.declared.Class.the-variants.{Is as ClassIs, Failure}
+use Rattle.sample.specs.declared.Sample.{Sample}
+use Rattle.signature.specs.declared.Signature.{Signature}
+use Rattle.signature.specs.declared.Signature.the-variants.{Valid as SigValid, Invalid as SigInvalid, Open as SigOpen}
 use Rattle.port.specs.Entry.{enter}
 use Rattle.port.specs.Form.{quietly}
 use Rattle.port.specs.States.{inTest, isIdle}

@@ -23,16 +23,16 @@ use Rattle.table.specs.declared.form.StatusRead.{StatusRead}
 use Rattle.table.specs.declared.form.Table.{Table}
 use Rattle.table.specs.declared.form.Ticked.{Ticked}
 use Rattle.table.specs.declared.form.Told.{Told}
-use Rattle.tlv.specs.Read.{readRefusals, readOf}
-use Rattle.tlv.specs.Search.{searchRefusals, searchOf}
-use Rattle.tlv.specs.Write.{writeRefusals, writtenOf, left, roomAfter}
-use Rattle.tlv.specs.declared.fields.Fields.{Fields}
-use Rattle.tlv.specs.declared.read.Taken.{Taken}
-use Rattle.tlv.specs.declared.read.Taken.the-variants.{Is as Read, Refused as NotRead}
-use Rattle.tlv.specs.declared.search.Searched.{Searched}
-use Rattle.tlv.specs.declared.search.Searched.the-variants.{Is as Found, Refused as NotFound}
-use Rattle.tlv.specs.declared.write.Written.{Written}
-use Rattle.tlv.specs.declared.write.Written.the-variants.{Is as Wrote, Refused as NotWritten}
+use Rattle.reader.specs.Read.{readRefusals, readOf}
+use Rattle.search.specs.Search.{searchRefusals, searchOf}
+use Rattle.writer.specs.Write.{writeRefusals, writtenOf, left, roomAfter}
+use Rattle.fields.specs.declared.Fields.{Fields}
+use Rattle.reader.specs.declared.Taken.{Taken}
+use Rattle.reader.specs.declared.Taken.the-variants.{Is as Read, Refused as NotRead}
+use Rattle.search.specs.declared.Searched.{Searched}
+use Rattle.search.specs.declared.Searched.the-variants.{Is as Found, Refused as NotFound}
+use Rattle.writer.specs.declared.Written.{Written}
+use Rattle.writer.specs.declared.Written.the-variants.{Is as Wrote, Refused as NotWritten}
 use Rattle.statements.specs.History.{accepted}
 use Rattle.statements.specs.Reached.{Stopped, Ran, tick-told}
 

@@ -12,8 +12,8 @@ use borrow.Author.Tests.{lt-leb, le-leb}
 use Rattle.lists.specs.Bits.{bit}
 use Rattle.lists.specs.Count.{count}
 use Rattle.power.specs.Power.{tenths, forced}
-use Rattle.reading.specs.Sample.{sampleAt}
-use Rattle.words.specs.Control.{pairOf}
+use Rattle.sample.specs.Sample.{sampleAt}
+use Rattle.control.specs.Control.{pairOf}
 use Rattle.port.specs.States.{closed, inTest}
 use Rattle.port.specs.Entry.{enter}
 use Rattle.port.specs.Form.{latching, latchDenied}
@@ -25,7 +25,7 @@ use Rattle.share.specs.Laws.{shed-after, kept-sum-fits, longest}
 use Rattle.share.specs.Share.{claims, before, keeps, keptSum}
 use Rattle.share.specs.Walk.{walked, isIn}
 use Rattle.share.specs.WalkLaws.{walk-keeps}
-use Rattle.words.specs.Status.{join}
+use Rattle.status.specs.Status.{join}
 use Rattle.diagram.specs.Latched.{latches-told}
 use Rattle.block.specs.Digest.{digest}
 use Rattle.table.specs.Form.{portAt}

@@ -6,16 +6,16 @@ use mathlib.Core.Path.{_≡_, refl}
 use mathlib.Core.List.{List, [], _∷_, map}
 use lib.ListN.{replicate}
 use Rattle.lists.specs.Bits.{field}
-use Rattle.tlv.specs.Fields.{outside, badValues}
-use Rattle.tlv.specs.Header.{wordAt, typeAt, lengthAt, sizeAt, standsAt, fixedAt, isPower}
-use Rattle.tlv.specs.Read.{cut, exactlyOne, addedIn, formIn, fieldsIn, readOf}
-use Rattle.tlv.specs.Write.{badCodes, bytesOf, writtenOf, roomAfter}
-use Rattle.tlv.specs.declared.fields.Fields.{Fields}
-use Rattle.tlv.specs.declared.fields.Form.the-variants.{Short, Long}
-use Rattle.tlv.specs.declared.read.Taken.{Taken}
-use Rattle.tlv.specs.declared.read.Taken.the-variants.{Is, Refused}
-use Rattle.tlv.specs.declared.write.Written.{Written}
-use Rattle.tlv.specs.declared.write.Written.the-variants.{Is as Wrote, Refused as NotWritten}
+use Rattle.fields.specs.Fields.{outside, badValues}
+use Rattle.header.specs.Header.{wordAt, typeAt, lengthAt, sizeAt, standsAt, fixedAt, isPower}
+use Rattle.reader.specs.Read.{cut, exactlyOne, addedIn, formIn, fieldsIn, readOf}
+use Rattle.writer.specs.Write.{badCodes, bytesOf, writtenOf, roomAfter}
+use Rattle.fields.specs.declared.Fields.{Fields}
+use Rattle.fields.specs.declared.Form.the-variants.{Short, Long}
+use Rattle.reader.specs.declared.Taken.{Taken}
+use Rattle.reader.specs.declared.Taken.the-variants.{Is, Refused}
+use Rattle.writer.specs.declared.Written.{Written}
+use Rattle.writer.specs.declared.Written.the-variants.{Is as Wrote, Refused as NotWritten}
 
 -- "Type 127 (7 bits), length (9 bits), OUI 00-12-0F, subtype 2, then three octets .. (support, pair, class). Length 7 ends there."
 abbrev short : List ℕ → List ℕ

@@ -2,7 +2,7 @@
 -- words of the source up to names, with what a slice holds on entry by the slice's name and on exit by the name with a prime; `tools/public` reads the
 -- public functions off the sources, and fails if one is missing here or promises something else.
 -- Assumes nothing.
-use Prim.Native.Nat.{ℕ}
+use Prim.Native.Nat.{ℕ, _<_, _^_}
 use mathlib.Core.Path.{_≡_, refl, sym, _∙_, subst}
 use mathlib.Core.Bool.{Bool}
 use mathlib.Core.List.{List}
@@ -12,21 +12,23 @@ use Rattle.power.specs.Power.{atMost, same, supplyOf, plus, join as joinSums, f
 use Rattle.power.specs.declared.Power.{Power}
 use Rattle.power.specs.declared.Sum.{Sum}
 use Rattle.power.specs.declared.Supply.{Supply}
-use Rattle.reading.specs.Class.{classOf, classOfTwo, budgetOf, isDemand}
-use Rattle.reading.specs.Sample.{sampleOf, reservedFlags, flagsOf}
-use Rattle.reading.specs.Signature.{signatureOf}
-use Rattle.reading.specs.declared.class.Class.{Class}
-use Rattle.reading.specs.declared.sample.Flags.{Flags}
-use Rattle.reading.specs.declared.sample.Sampled.{Sampled}
-use Rattle.reading.specs.declared.signature.Signature.{Signature}
-use Rattle.words.specs.Control.{enableOf, pairOf, priorityOf, controlOf, wordOf, refused, isOff, isOn, isForced}
-use Rattle.words.specs.Status.{join as joinLatches, statusWord}
-use Rattle.words.specs.declared.control.Control.{Control}
-use Rattle.words.specs.declared.control.Enable.{Enable}
-use Rattle.words.specs.declared.control.Pair.{Pair}
-use Rattle.words.specs.declared.control.Priority.{Priority}
-use Rattle.words.specs.declared.status.Condition.{Condition}
-use Rattle.words.specs.declared.status.Latches.{Latches}
+use Rattle.class.specs.Class.{classOf, classOfTwo, budgetOf, isDemand}
+use Rattle.sample.specs.Sample.{sampleOf, reservedFlags, flagsOf}
+use Rattle.signature.specs.Signature.{signatureOf}
+use Rattle.class.specs.declared.Class.{Class}
+use Rattle.sample.specs.declared.Flags.{Flags}
+use Rattle.sample.specs.declared.Sample.{Sample}
+use Rattle.sample.specs.declared.Sampled.{Sampled}
+use Rattle.signature.specs.declared.Signature.{Signature}
+use Rattle.control.specs.Control.{enableOf, pairOf, priorityOf, controlOf, wordOf, refused}
+use Rattle.enable.specs.Enable.{isOff, isOn, isForced}
+use Rattle.status.specs.Status.{join as joinLatches, statusWord}
+use Rattle.control.specs.declared.Control.{Control}
+use Rattle.control.specs.declared.Enable.{Enable}
+use Rattle.control.specs.declared.Pair.{Pair}
+use Rattle.control.specs.declared.Priority.{Priority}
+use Rattle.status.specs.declared.Condition.{Condition}
+use Rattle.status.specs.declared.Latches.{Latches}
 use Rattle.settling.specs.Claim.{rankIn, settledAs}
 use Rattle.quick.specs.Sweep.{sweptLeft, sweptCells, sweptLane}
 use Rattle.port.specs.States.{closed, codeOf}
@@ -47,20 +49,25 @@ use Rattle.cells.specs.Codes.{stateOf, latchesOf, latchByte}
 use Rattle.cells.specs.Lent.{cellsTold, cellsRead, cellsTicked, cellsCold}
 use Rattle.well.specs.Judged.{headCells, wellCells}
 use Rattle.calls.specs.OnCells.{startOn, controlOn, statusOn, requestOn}
+use Rattle.block.specs.Digest.{digest}
+use Rattle.block.specs.Flags.{flagsClean, flagsLaid}
+use Rattle.claims.specs.Claimed.{wantedIn, claimsIn}
+use Rattle.tally.specs.Tally.{drawnIn, closedIn, sidesIn}
 use Rattle.tick.specs.OnCells.{tickOn}
 use Rattle.image.specs.Image.{imageable, saves, roomAfter as imageAfter}
 use Rattle.image.specs.Load.{restores, cellsRestored}
-use Rattle.tlv.specs.Fields.{badValues}
-use Rattle.tlv.specs.Read.{readOf}
-use Rattle.tlv.specs.Search.{searchOf}
-use Rattle.tlv.specs.Walk.{stepOf}
-use Rattle.tlv.specs.Write.{writtenOf, roomAfter}
-use Rattle.tlv.specs.declared.fields.Fields.{Fields}
-use Rattle.tlv.specs.declared.fields.Form.{Form}
-use Rattle.tlv.specs.declared.read.Taken.{Taken}
-use Rattle.tlv.specs.declared.search.Searched.{Searched}
-use Rattle.tlv.specs.declared.walk.Step.{Step}
-use Rattle.tlv.specs.declared.write.Written.{Written}
+use Rattle.header.specs.Header.{wordAt, typeAt, lengthAt, isPower}
+use Rattle.fields.specs.Fields.{badValues}
+use Rattle.reader.specs.Read.{readOf}
+use Rattle.search.specs.Search.{searchOf}
+use Rattle.walk.specs.Walk.{stepOf}
+use Rattle.writer.specs.Write.{writtenOf, roomAfter}
+use Rattle.fields.specs.declared.Fields.{Fields}
+use Rattle.fields.specs.declared.Form.{Form}
+use Rattle.reader.specs.declared.Taken.{Taken}
+use Rattle.search.specs.declared.Searched.{Searched}
+use Rattle.walk.specs.declared.Step.{Step}
+use Rattle.writer.specs.declared.Written.{Written}
 
 -- two results that obey the promise are equal
 abbrev pub One : (A : Type 0) → (A → Type 0) → Type 0
@@ -86,25 +93,25 @@ pub record Unique : Type 0 where
   pub power-plus : (self : Sum) (a : Power) → One Sum (λ r. r ≡ plus self a)
   pub power-join : (self other : Sum) → One Sum (λ r. r ≡ joinSums self other)
   pub power-fits : (self : Sum) (s : Power) → One Bool (λ r. r ≡ fits self s)
-  pub reading-class-class-of : (current : ℕ) → One Class (λ r. r ≡ classOf current)
-  pub reading-class-class-of-two : (c1 c2 : ℕ) → One Class (λ r. r ≡ classOfTwo c1 c2)
-  pub reading-class-budget : (c : ℕ) → One Power (λ r. r ≡ budgetOf c)
-  pub reading-class-is-demand : (d : Power) → One Bool (λ r. r ≡ isDemand d)
-  pub reading-sample-sample-of : (block : List ℕ) (p : ℕ) → One Sampled (λ r. r ≡ sampleOf block p)
-  pub reading-sample-reserved-flags : (word : ℕ) → One Bool (λ r. r ≡ reservedFlags word)
-  pub reading-sample-flags-of : (word : ℕ) → One Flags (λ r. r ≡ flagsOf word)
-  pub reading-signature-signature-of : (v1 v2 i1 i2 : ℕ) → One Signature (λ r. r ≡ signatureOf v1 v2 i1 i2)
-  pub words-control-enable-of : (word : ℕ) → One Enable (λ r. r ≡ enableOf word)
-  pub words-control-pair-of : (word : ℕ) → One Pair (λ r. r ≡ pairOf word)
-  pub words-control-priority-of : (word : ℕ) → One Priority (λ r. r ≡ priorityOf word)
-  pub words-control-control-of : (word : ℕ) → One Control (λ r. r ≡ controlOf word)
-  pub words-control-word-of : (c : Control) → One ℕ (λ r. r ≡ wordOf c)
-  pub words-control-refused : (word : ℕ) → One Bool (λ r. r ≡ refused word)
-  pub words-enable-is-off : (enable : Enable) → One Bool (λ r. r ≡ isOff enable)
-  pub words-enable-is-on : (enable : Enable) → One Bool (λ r. r ≡ isOn enable)
-  pub words-enable-is-forced : (enable : Enable) → One Bool (λ r. r ≡ isForced enable)
-  pub words-status-join : (self more : Latches) → One Latches (λ r. r ≡ joinLatches self more)
-  pub words-status-status-word : (l : Latches) (c : ℕ) (k : Condition) → One ℕ (λ r. r ≡ statusWord l c k)
+  pub class-class-of : (current : ℕ) → One Class (λ r. r ≡ classOf current)
+  pub class-class-of-two : (c1 c2 : ℕ) → One Class (λ r. r ≡ classOfTwo c1 c2)
+  pub class-budget : (c : ℕ) → One Power (λ r. r ≡ budgetOf c)
+  pub class-is-demand : (d : Power) → One Bool (λ r. r ≡ isDemand d)
+  pub sample-sample-of : (block : List ℕ) (p : ℕ) → One Sampled (λ r. r ≡ sampleOf block p)
+  pub sample-reserved-flags : (word : ℕ) → One Bool (λ r. r ≡ reservedFlags word)
+  pub sample-flags-of : (word : ℕ) → One Flags (λ r. r ≡ flagsOf word)
+  pub signature-signature-of : (v1 v2 i1 i2 : ℕ) → One Signature (λ r. r ≡ signatureOf v1 v2 i1 i2)
+  pub control-enable-of : (word : ℕ) → One Enable (λ r. r ≡ enableOf word)
+  pub control-pair-of : (word : ℕ) → One Pair (λ r. r ≡ pairOf word)
+  pub control-priority-of : (word : ℕ) → One Priority (λ r. r ≡ priorityOf word)
+  pub control-control-of : (word : ℕ) → One Control (λ r. r ≡ controlOf word)
+  pub control-word-of : (c : Control) → One ℕ (λ r. r ≡ wordOf c)
+  pub control-refused : (word : ℕ) → One Bool (λ r. r ≡ refused word)
+  pub enable-is-off : (enable : Enable) → One Bool (λ r. r ≡ isOff enable)
+  pub enable-is-on : (enable : Enable) → One Bool (λ r. r ≡ isOn enable)
+  pub enable-is-forced : (enable : Enable) → One Bool (λ r. r ≡ isForced enable)
+  pub status-join : (self more : Latches) → One Latches (λ r. r ≡ joinLatches self more)
+  pub status-status-word : (l : Latches) (c : ℕ) (k : Condition) → One ℕ (λ r. r ≡ statusWord l c k)
   pub port-closed-is-closed : (state : State) → One Bool (λ r. r ≡ closed state)
   pub port-entry-up : (n : ℕ) → One ℕ (λ r. r ≡ up n)
   pub port-entry-during : (runs : Bool) (n : ℕ) → One ℕ (λ r. r ≡ during runs n)
@@ -127,16 +134,26 @@ pub record Unique : Type 0 where
   pub calls-write-control : (cells : List ℕ) (port word : ℕ) → OneWith Answer (List ℕ) (λ r cells'. (r ≡ controlOn cells port word .answer) × (cells' ≡ cellsTold (controlOn cells port word) cells))
   pub calls-read-status : (cells : List ℕ) (port : ℕ) → OneWith Status (List ℕ) (λ r cells'. (r ≡ statusOn cells port .answer) × (cells' ≡ cellsRead (statusOn cells port) cells))
   pub calls-request : (cells : List ℕ) (port value : ℕ) → OneWith Answer (List ℕ) (λ r cells'. (r ≡ requestOn cells port value .answer) × (cells' ≡ cellsTold (requestOn cells port value) cells))
+  pub block-flags-into : (block : List ℕ) (n : ℕ) (lane : List ℕ) → OneWith Bool (List ℕ) (λ r lane'. (r ≡ flagsClean n block lane) × (lane' ≡ flagsLaid n block lane))
+  pub block-digest-digest-of : (sample : Sample) → One Reading (λ r. r ≡ digest sample)
+  pub tally-drawn : (cells : List ℕ) (n : ℕ) → One ℕ (λ r. r ≡ drawnIn n cells)
+  pub tally-closed-ports : (cells : List ℕ) (n : ℕ) (lane : List ℕ) → OneWith Closed (List ℕ) (λ r lane'. (r ≡ closedIn n cells lane) × (lane' ≡ sidesIn n cells lane))
+  pub claims-wanted : (cells : List ℕ) (n : ℕ) (lane : List ℕ) → One ℕ (λ r. r ≡ wantedIn n lane cells)
+  pub claims-claims-of : (cells : List ℕ) (n : ℕ) (lane : List ℕ) → One Claims (λ r. r ≡ claimsIn n lane cells)
   pub tick-tick : (cells block : List ℕ) (figure : ℕ) → OneWith Closed (List ℕ) (λ r cells'. (r ≡ tickOn cells block figure .answer) × (cells' ≡ cellsTicked (tickOn cells block figure) cells))
-  pub tlv-fields-bad-values : (f : Form) → One Bool (λ r. r ≡ badValues f)
-  pub tlv-read-read : (bytes : List ℕ) → One Taken (λ r. r ≡ readOf bytes)
-  pub tlv-search-search : (pdu : List ℕ) → One Searched (λ r. r ≡ searchOf pdu)
+  pub header-word-at : (bytes : List ℕ) (at : ℕ) → One ℕ (λ r. r ≡ wordAt bytes at)
+  pub header-type-at : (bytes : List ℕ) (at : ℕ) → One ℕ (λ r. r ≡ typeAt bytes at)
+  pub header-length-at : (bytes : List ℕ) (at : ℕ) → One ℕ (λ r. (r ≡ lengthAt bytes at) × (r < 2 ^ 9))
+  pub header-is-power : (bytes : List ℕ) (at : ℕ) → One Bool (λ r. r ≡ isPower bytes at)
+  pub fields-bad-values : (f : Form) → One Bool (λ r. r ≡ badValues f)
+  pub reader-read : (bytes : List ℕ) → One Taken (λ r. r ≡ readOf bytes)
+  pub search-search : (pdu : List ℕ) → One Searched (λ r. r ≡ searchOf pdu)
   -- of the part that is handed back, its bytes
-  pub tlv-search-part : (pdu : List ℕ) (start size : ℕ) → One (List ℕ) (λ r. r ≡ take size (drop start pdu))
-  pub tlv-walk-new : (pdu : List ℕ) (at : ℕ) → One Walker (λ r. (r .pdu ≡ pdu) × (r .at ≡ at))
-  pub tlv-walk-here : (w : Walker) → One Step (λ s. s ≡ stepOf (w .pdu) (w .at))
-  pub tlv-walk-tlv-at : (pdu : List ℕ) (at : ℕ) → One Step (λ s. s ≡ stepOf pdu at)
-  pub tlv-write-write : (f : Fields) (room : List ℕ) → OneWith Written (List ℕ) (λ r room'. (r ≡ writtenOf f room) × (room' ≡ roomAfter f room))
+  pub search-part : (pdu : List ℕ) (start size : ℕ) → One (List ℕ) (λ r. r ≡ take size (drop start pdu))
+  pub walk-new : (pdu : List ℕ) (at : ℕ) → One Walker (λ r. (r .pdu ≡ pdu) × (r .at ≡ at))
+  pub walk-here : (w : Walker) → One Step (λ s. s ≡ stepOf (w .pdu) (w .at))
+  pub walk-tlv-at : (pdu : List ℕ) (at : ℕ) → One Step (λ s. s ≡ stepOf pdu at)
+  pub writer-write : (f : Fields) (room : List ℕ) → OneWith Written (List ℕ) (λ r room'. (r ≡ writtenOf f room) × (room' ≡ roomAfter f room))
   pub image-load-load : (bytes cells : List ℕ) → OneWith Bool (List ℕ) (λ r cells'. (r ≡ restores bytes cells) × (cells' ≡ cellsRestored bytes cells))
   pub image-store-imageable : (cells : List ℕ) → One Bool (λ r. r ≡ imageable cells)
   pub image-store-store : (cells room : List ℕ) → OneWith Bool (List ℕ) (λ r room'. (r ≡ saves cells room) × (room' ≡ imageAfter cells room))
@@ -162,25 +179,25 @@ unique =
       power-plus = λ self a. one Sum (plus self a);
       power-join = λ self other. one Sum (joinSums self other);
       power-fits = λ self s. one Bool (fits self s);
-      reading-class-class-of = λ current. one Class (classOf current);
-      reading-class-class-of-two = λ c1 c2. one Class (classOfTwo c1 c2);
-      reading-class-budget = λ c. one Power (budgetOf c);
-      reading-class-is-demand = λ d. one Bool (isDemand d);
-      reading-sample-sample-of = λ block p. one Sampled (sampleOf block p);
-      reading-sample-reserved-flags = λ word. one Bool (reservedFlags word);
-      reading-sample-flags-of = λ word. one Flags (flagsOf word);
-      reading-signature-signature-of = λ v1 v2 i1 i2. one Signature (signatureOf v1 v2 i1 i2);
-      words-control-enable-of = λ word. one Enable (enableOf word);
-      words-control-pair-of = λ word. one Pair (pairOf word);
-      words-control-priority-of = λ word. one Priority (priorityOf word);
-      words-control-control-of = λ word. one Control (controlOf word);
-      words-control-word-of = λ c. one ℕ (wordOf c);
-      words-control-refused = λ word. one Bool (refused word);
-      words-enable-is-off = λ enable. one Bool (isOff enable);
-      words-enable-is-on = λ enable. one Bool (isOn enable);
-      words-enable-is-forced = λ enable. one Bool (isForced enable);
-      words-status-join = λ self more. one Latches (joinLatches self more);
-      words-status-status-word = λ l c k. one ℕ (statusWord l c k);
+      class-class-of = λ current. one Class (classOf current);
+      class-class-of-two = λ c1 c2. one Class (classOfTwo c1 c2);
+      class-budget = λ c. one Power (budgetOf c);
+      class-is-demand = λ d. one Bool (isDemand d);
+      sample-sample-of = λ block p. one Sampled (sampleOf block p);
+      sample-reserved-flags = λ word. one Bool (reservedFlags word);
+      sample-flags-of = λ word. one Flags (flagsOf word);
+      signature-signature-of = λ v1 v2 i1 i2. one Signature (signatureOf v1 v2 i1 i2);
+      control-enable-of = λ word. one Enable (enableOf word);
+      control-pair-of = λ word. one Pair (pairOf word);
+      control-priority-of = λ word. one Priority (priorityOf word);
+      control-control-of = λ word. one Control (controlOf word);
+      control-word-of = λ c. one ℕ (wordOf c);
+      control-refused = λ word. one Bool (refused word);
+      enable-is-off = λ enable. one Bool (isOff enable);
+      enable-is-on = λ enable. one Bool (isOn enable);
+      enable-is-forced = λ enable. one Bool (isForced enable);
+      status-join = λ self more. one Latches (joinLatches self more);
+      status-status-word = λ l c k. one ℕ (statusWord l c k);
       port-closed-is-closed = λ state. one Bool (closed state);
       port-entry-up = λ n. one ℕ (up n);
       port-entry-during = λ runs n. one ℕ (during runs n);
@@ -203,16 +220,26 @@ unique =
       calls-write-control = λ cells port word. with-room Answer (List ℕ) (controlOn cells port word .answer) (cellsTold (controlOn cells port word) cells);
       calls-read-status = λ cells port. with-room Status (List ℕ) (statusOn cells port .answer) (cellsRead (statusOn cells port) cells);
       calls-request = λ cells port value. with-room Answer (List ℕ) (requestOn cells port value .answer) (cellsTold (requestOn cells port value) cells);
+      block-flags-into = λ block n lane. with-room Bool (List ℕ) (flagsClean n block lane) (flagsLaid n block lane);
+      block-digest-digest-of = λ sample. one Reading (digest sample);
+      tally-drawn = λ cells n. one ℕ (drawnIn n cells);
+      tally-closed-ports = λ cells n lane. with-room Closed (List ℕ) (closedIn n cells lane) (sidesIn n cells lane);
+      claims-wanted = λ cells n lane. one ℕ (wantedIn n lane cells);
+      claims-claims-of = λ cells n lane. one Claims (claimsIn n lane cells);
       tick-tick = λ cells block figure. with-room Closed (List ℕ) (tickOn cells block figure .answer) (cellsTicked (tickOn cells block figure) cells);
-      tlv-fields-bad-values = λ f. one Bool (badValues f);
-      tlv-read-read = λ bytes. one Taken (readOf bytes);
-      tlv-search-search = λ pdu. one Searched (searchOf pdu);
-      tlv-search-part = λ pdu start size. one (List ℕ) (take size (drop start pdu));
-      tlv-walk-new = λ pdu at. walker pdu at;
-      tlv-walk-here = λ w. one Step (stepOf (w .pdu) (w .at));
-      tlv-walk-tlv-at = λ pdu at. one Step (stepOf pdu at);
+      header-word-at = λ bytes at. one ℕ (wordAt bytes at);
+      header-type-at = λ bytes at. one ℕ (typeAt bytes at);
+      header-length-at = λ bytes at r s p q. p .0 ∙ sym (q .0);
+      header-is-power = λ bytes at. one Bool (isPower bytes at);
+      fields-bad-values = λ f. one Bool (badValues f);
+      reader-read = λ bytes. one Taken (readOf bytes);
+      search-search = λ pdu. one Searched (searchOf pdu);
+      search-part = λ pdu start size. one (List ℕ) (take size (drop start pdu));
+      walk-new = λ pdu at. walker pdu at;
+      walk-here = λ w. one Step (stepOf (w .pdu) (w .at));
+      walk-tlv-at = λ pdu at. one Step (stepOf pdu at);
       image-load-load = λ bytes cells. with-room Bool (List ℕ) (restores bytes cells) (cellsRestored bytes cells);
       image-store-imageable = λ cells. one Bool (imageable cells);
       image-store-store = λ cells room. with-room Bool (List ℕ) (saves cells room) (imageAfter cells room);
-      tlv-write-write = λ f room. with-room Written (List ℕ) (writtenOf f room) (roomAfter f room);
+      writer-write = λ f room. with-room Written (List ℕ) (writtenOf f room) (roomAfter f room);
     }

@@ -13,11 +13,11 @@ use Rattle.lists.specs.Places.{tabulate}
 use Rattle.lists.specs.Table.{some}
 use Rattle.lists.specs.Total.{total}
 use Rattle.power.specs.Power.{over}
-use Rattle.reading.specs.Class.{classOf, isFour, classOfTwo, budgetOf, isDemand}
-use Rattle.reading.specs.Sample.{wordAt, sampleAt, reservedFlags, flagsOf}
-use Rattle.reading.specs.declared.sample.Sample.{Sample}
-use Rattle.reading.specs.Signature.{outside, byDifferences, signatureOf}
-use Rattle.words.specs.Control.{enableOf, pairOf, priorityOf, refused}
+use Rattle.class.specs.Class.{classOf, isFour, classOfTwo, budgetOf, isDemand}
+use Rattle.sample.specs.Sample.{wordAt, sampleAt, reservedFlags, flagsOf}
+use Rattle.sample.specs.declared.Sample.{Sample}
+use Rattle.signature.specs.Signature.{outside, byDifferences, signatureOf}
+use Rattle.control.specs.Control.{enableOf, pairOf, priorityOf, refused}
 use Rattle.port.specs.Entry.{up, enter}
 use Rattle.diagram.specs.Rules.{idle, detected, detecting, classed, classifying}
 use Rattle.settling.specs.Settle.{rank, granted, shed, settled}

@@ -15,10 +15,10 @@ use Rattle.lists.specs.Every.{someBelow}
 use Rattle.lists.specs.Table.{some}
 use Rattle.lists.specs.Total.{total}
 use Rattle.power.specs.Power.{tenths, zeroPower, over}
-use Rattle.reading.specs.Class.{classOf, isFour, classOfTwo, budgetOf, isDemand}
-use Rattle.reading.specs.Sample.{wordAt, sampleAt, reservedFlags, flagsOf}
-use Rattle.words.specs.Control.{enableOf, pairOf, priorityOf, refused}
-use Rattle.words.specs.Status.{noLatches}
+use Rattle.class.specs.Class.{classOf, isFour, classOfTwo, budgetOf, isDemand}
+use Rattle.sample.specs.Sample.{wordAt, sampleAt, reservedFlags, flagsOf}
+use Rattle.control.specs.Control.{enableOf, pairOf, priorityOf, refused}
+use Rattle.status.specs.Status.{noLatches}
 use Rattle.port.specs.Entry.{up, enter}
 use Rattle.diagram.specs.Rules.{classed, classifying}
 use Rattle.port.specs.States.{closed}

@@ -2,7 +2,7 @@
 use Prim.Native.Nat.{ℕ}
 use lib.ListN.{getD, set}
 use Rattle.power.specs.Power.{zeroPower}
-use Rattle.words.specs.Status.{noLatches}
+use Rattle.status.specs.Status.{noLatches}
 use Rattle.port.specs.declared.form.Counts.{Counts}
 use Rattle.port.specs.declared.form.Port.{Port}
 use Rattle.port.specs.declared.form.State.the-variants.{Disabled}

@@ -10,8 +10,8 @@ use Rattle.lists.specs.Table.{some}
 use Rattle.lists.specs.Tests.{not-or, not-ltb, not-zero}
 use Rattle.power.specs.Power.{atMost, over, highestSupply}
 use Rattle.power.specs.declared.Power.{Power}
-use Rattle.reading.specs.Class.{isDemand}
-use Rattle.words.specs.Control.{refused}
+use Rattle.class.specs.Class.{isDemand}
+use Rattle.control.specs.Control.{refused}
 use Rattle.port.specs.declared.form.Counts.{Counts}
 use Rattle.port.specs.declared.form.Port.{Port}
 use Rattle.table.specs.declared.form.Table.{Table}

@@ -11,9 +11,9 @@ use Rattle.lists.specs.Table.{some}
 use Rattle.lists.specs.Tests.{and-left, and-right, choice}
 use Rattle.power.specs.Power.{atMost, highestSupply}
 use Rattle.power.specs.declared.Power.{Power}
-use Rattle.reading.specs.Class.{isDemand}
-use Rattle.words.specs.Control.{refused}
-use Rattle.words.specs.declared.status.Latches.{Latches}
+use Rattle.class.specs.Class.{isDemand}
+use Rattle.control.specs.Control.{refused}
+use Rattle.status.specs.declared.Latches.{Latches}
 use Rattle.port.specs.Entry.{up, during, countsOnEntry, demandOnEntry, enter}
 use Rattle.port.specs.Form.{withLatches, withCounts}
 use Rattle.port.specs.declared.form.Counts.{Counts}

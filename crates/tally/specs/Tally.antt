@@ -15,9 +15,9 @@ use Rattle.lists.specs.Bits.{one, one-small, place}
 use Rattle.lists.specs.Count.{mask, mask-below}
 use Rattle.lists.specs.Places.{side, tabulate, getD-tabulate, length-tabulate}
 use Rattle.lists.specs.Total.{total, total-cong}
-use Rattle.words.specs.Control.{pairOf}
-use Rattle.words.specs.declared.control.Pair.{Pair}
-use Rattle.words.specs.declared.control.Pair.the-variants.{Neither, A, B, Both}
+use Rattle.control.specs.Control.{pairOf}
+use Rattle.control.specs.declared.Pair.{Pair}
+use Rattle.control.specs.declared.Pair.the-variants.{Neither, A, B, Both}
 use Rattle.port.specs.States.{closed}
 use Rattle.port.specs.declared.form.Port.{Port}
 use Rattle.port.specs.declared.form.State.{State}

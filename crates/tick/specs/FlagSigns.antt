@@ -3,12 +3,12 @@
 use Prim.Native.Nat.{ℕ}
 use mathlib.Core.Path.{_≡_, refl}
 use mathlib.Core.Bool.{Bool, true, false, cond}
-use Rattle.reading.specs.Sample.{flagsOf}
-use Rattle.reading.specs.declared.class.Class.{Class}
-use Rattle.reading.specs.declared.class.Class.the-variants.{Is, Failure}
-use Rattle.reading.specs.declared.sample.Sample.{Sample}
-use Rattle.reading.specs.declared.signature.Signature.{Signature}
-use Rattle.reading.specs.declared.signature.Signature.the-variants.{Valid, Invalid, Open}
+use Rattle.sample.specs.Sample.{flagsOf}
+use Rattle.class.specs.declared.Class.{Class}
+use Rattle.class.specs.declared.Class.the-variants.{Is, Failure}
+use Rattle.sample.specs.declared.Sample.{Sample}
+use Rattle.signature.specs.declared.Signature.{Signature}
+use Rattle.signature.specs.declared.Signature.the-variants.{Valid, Invalid, Open}
 use Rattle.port.specs.declared.form.Classing.the-variants.{NotDone as NotClassed}
 use Rattle.port.specs.declared.form.Detection.the-variants.{NotDone}
 use Rattle.quick.specs.declared.Signs.{Signs}

@@ -11,7 +11,7 @@ use borrow.Author.Tests.{eqb-true, ltb-false}
 use Rattle.lists.specs.Every.{someBelow, nowhere}
 use Rattle.lists.specs.Ladder.{ladder}
 use Rattle.power.specs.Power.{tenths}
-use Rattle.reading.specs.Sample.{sampleAt, reservedFlags}
+use Rattle.sample.specs.Sample.{sampleAt, reservedFlags}
 use Rattle.table.specs.Form.{refuseTick}
 use Rattle.table.specs.declared.form.Table.{Table}
 use Rattle.table.specs.declared.form.Ticked.{Ticked}

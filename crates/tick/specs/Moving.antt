@@ -15,7 +15,7 @@ use Rattle.lists.specs.Places.{Filled, side}
 use Rattle.port.specs.Form.{quietly}
 use Rattle.port.specs.declared.form.Port.{Port}
 use Rattle.power.specs.Power.{forced}
-use Rattle.reading.specs.Sample.{sampleAt}
+use Rattle.sample.specs.Sample.{sampleAt}
 use Rattle.diagram.specs.Step.{step}
 use Rattle.settling.specs.Claim.{settlingChanges, settledAs, settled-still}
 use Rattle.cells.specs.Cells.{cellsLong, portOf, written}

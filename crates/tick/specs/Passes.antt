@@ -12,7 +12,7 @@ use Rattle.lists.specs.Places.{tabulate}
 use Rattle.lists.specs.Total.{total}
 use Rattle.power.specs.Power.{forced, tenths}
 use Rattle.power.specs.declared.Power.{Power}
-use Rattle.reading.specs.Sample.{sampleAt}
+use Rattle.sample.specs.Sample.{sampleAt}
 use Rattle.port.specs.Form.{quietly}
 use Rattle.port.specs.declared.form.Moved.{Moved}
 use Rattle.port.specs.declared.form.Port.{Port}

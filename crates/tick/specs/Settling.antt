@@ -16,7 +16,7 @@ use Rattle.lists.specs.Places.{tabulate, getD-tabulate, tabulate-cong, side}
 use Rattle.lists.specs.Tests.{choice}
 use Rattle.lists.specs.Total.{total, total-cong, total-mono, total-plus, total-less}
 use Rattle.power.specs.declared.Power.{Power}
-use Rattle.words.specs.Control.{priorityOf}
+use Rattle.control.specs.Control.{priorityOf}
 use Rattle.port.specs.States.{closed}
 use Rattle.port.specs.declared.form.Moved.{Moved}
 use Rattle.port.specs.declared.form.Port.{Port}

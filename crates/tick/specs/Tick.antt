@@ -7,7 +7,7 @@ use lib.ListN.{length}
 use Rattle.lists.specs.Every.{someBelow}
 use Rattle.lists.specs.Ladder.{ladder}
 use Rattle.power.specs.Power.{forced, tenths}
-use Rattle.reading.specs.Sample.{sampleAt, reservedFlags}
+use Rattle.sample.specs.Sample.{sampleAt, reservedFlags}
 use Rattle.diagram.specs.Step.{step}
 use Rattle.port.specs.declared.form.Moved.{Moved}
 use Rattle.boards.specs.Masks.{answered}

@@ -18,8 +18,8 @@ use Rattle.lists.specs.Tests.{fails-left, fails-right, choice}
 use Rattle.lists.specs.Total.{total, total-cong, total-zero}
 use Rattle.power.specs.Power.{tenths, forced}
 use Rattle.power.specs.declared.Power.{Power}
-use Rattle.reading.specs.Sample.{sampleAt, reservedFlags, flagsOf}
-use Rattle.words.specs.Control.{refused}
+use Rattle.sample.specs.Sample.{sampleAt, reservedFlags, flagsOf}
+use Rattle.control.specs.Control.{refused}
 use Rattle.port.specs.Form.{quietly}
 use Rattle.port.specs.declared.form.Moved.{Moved}
 use Rattle.port.specs.declared.form.Port.{Port}

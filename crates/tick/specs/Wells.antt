@@ -8,13 +8,13 @@ use borrow.Author.Tests.{leb-true}
 use Rattle.lists.specs.Table.{some}
 use Rattle.lists.specs.Tests.{choice}
 use Rattle.power.specs.Power.{forced}
-use Rattle.reading.specs.Class.{isDemand, classOfTwo}
-use Rattle.reading.specs.Laws.{budget-is-demand, atMostFour, class-of-two-at-most-four}
-use Rattle.reading.specs.declared.class.Class.{Class}
-use Rattle.reading.specs.declared.class.Class.the-variants.{Is, Failure}
-use Rattle.reading.specs.declared.sample.Sample.{Sample}
-use Rattle.reading.specs.Sample.{flagsOf}
-use Rattle.words.specs.declared.status.Latches.{Latches}
+use Rattle.class.specs.Class.{isDemand, classOfTwo}
+use Rattle.class.specs.Laws.{budget-is-demand, atMostFour, class-of-two-at-most-four}
+use Rattle.class.specs.declared.Class.{Class}
+use Rattle.class.specs.declared.Class.the-variants.{Is, Failure}
+use Rattle.sample.specs.declared.Sample.{Sample}
+use Rattle.sample.specs.Sample.{flagsOf}
+use Rattle.status.specs.declared.Latches.{Latches}
 use Rattle.port.specs.Entry.{enter}
 use Rattle.port.specs.Form.{withClass, withLatches}
 use Rattle.diagram.specs.Rules.{stressed}

@@ -14,18 +14,18 @@ use Rattle.lists.specs.Bits.{field}
 use Rattle.lists.specs.Ladder.{ladder-value}
 use Rattle.lists.specs.Table.{all, entry-or}
 use Rattle.lists.specs.Tests.{and-left, and-right}
-use Rattle.tlv.specs.Fields.{badValues}
-use Rattle.tlv.specs.Header.{wordAt, typeAt, lengthAt, fixedAt, isPower}
+use Rattle.fields.specs.Fields.{badValues}
+use Rattle.header.specs.Header.{wordAt, typeAt, lengthAt, fixedAt, isPower}
 use Rattle.tlv.specs.Laws.{isByte, ReadRewrites}
-use Rattle.tlv.specs.Read.{exactlyOne, addedIn, formIn, fieldsIn, readRefusals, readOf}
-use Rattle.tlv.specs.Write.{badCodes, bytesOf}
-use Rattle.tlv.specs.declared.fields.Fields.{Fields}
-use Rattle.tlv.specs.declared.fields.Form.the-variants.{Short, Long}
-use Rattle.tlv.specs.declared.read.Taken.the-variants.{Is, Refused}
-use Rattle.tlv.specs.declared.write.Written.the-variants.{Is as Wrote}
-use Rattle.tlv.proofs.Fixed.{four}
-use Rattle.tlv.proofs.One.{whole, power, lengths}
-use Rattle.tlv.proofs.Stored.{Answers, accept}
+use Rattle.reader.specs.Read.{exactlyOne, addedIn, formIn, fieldsIn, readRefusals, readOf}
+use Rattle.writer.specs.Write.{badCodes, bytesOf}
+use Rattle.fields.specs.declared.Fields.{Fields}
+use Rattle.fields.specs.declared.Form.the-variants.{Short, Long}
+use Rattle.reader.specs.declared.Taken.the-variants.{Is, Refused}
+use Rattle.writer.specs.declared.Written.the-variants.{Is as Wrote}
+use Rattle.header.proofs.Fixed.{four}
+use Rattle.reader.proofs.One.{whole, power, lengths}
+use Rattle.writer.proofs.Stored.{Answers, accept}
 
 -- what an accepted read says of its bytes
 pub taken : (bytes : List ℕ) (f : Fields) → readOf bytes ≡ Is f → (exactlyOne bytes ≡ true) × (badValues (formIn bytes) ≡ false) × (fieldsIn bytes ≡ f)

@@ -9,19 +9,19 @@ use lib.ListN.{length, take, drop}
 use lib.Seq.{take-at}
 use Rattle.lists.specs.Bits.{field}
 use Rattle.lists.specs.Ladder.{ladder-value}
-use Rattle.tlv.specs.Fields.{badValues}
-use Rattle.tlv.specs.Header.{wordAt, typeAt, lengthAt, sizeAt, standsAt, fixedAt, isPower}
+use Rattle.fields.specs.Fields.{badValues}
+use Rattle.header.specs.Header.{wordAt, typeAt, lengthAt, sizeAt, standsAt, fixedAt, isPower}
 use Rattle.tlv.specs.Laws.{WrittenReads}
-use Rattle.tlv.specs.Read.{cut, exactlyOne, addedIn, formIn, fieldsIn, readOf}
-use Rattle.tlv.specs.Write.{badCodes, bytesOf, writeRefusals, writtenOf, roomAfter, left}
-use Rattle.tlv.specs.declared.fields.Fields.{Fields}
-use Rattle.tlv.specs.declared.fields.Form.{Form}
-use Rattle.tlv.specs.declared.fields.Form.the-variants.{Short, Long}
-use Rattle.tlv.specs.declared.fields.Added.{Added}
-use Rattle.tlv.specs.declared.read.Taken.the-variants.{Is}
-use Rattle.tlv.specs.declared.write.Written.{Written}
-use Rattle.tlv.specs.declared.write.Written.the-variants.{Is as Wrote, Refused}
-use Rattle.tlv.proofs.Good.{codes}
+use Rattle.reader.specs.Read.{cut, exactlyOne, addedIn, formIn, fieldsIn, readOf}
+use Rattle.writer.specs.Write.{badCodes, bytesOf, writeRefusals, writtenOf, roomAfter, left}
+use Rattle.fields.specs.declared.Fields.{Fields}
+use Rattle.fields.specs.declared.Form.{Form}
+use Rattle.fields.specs.declared.Form.the-variants.{Short, Long}
+use Rattle.fields.specs.declared.Added.{Added}
+use Rattle.reader.specs.declared.Taken.the-variants.{Is}
+use Rattle.writer.specs.declared.Written.{Written}
+use Rattle.writer.specs.declared.Written.the-variants.{Is as Wrote, Refused}
+use Rattle.writer.proofs.Good.{codes}
 
 -- a number of two bytes
 value : (v : ℕ) → 256 * (v / 256) + v % 256 ≡ v

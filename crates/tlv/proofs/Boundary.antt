@@ -12,17 +12,17 @@ use lib.Seq.{getD-take, getD-drop, length-take-le}
 use borrow.Author.Tests.{leb-true}
 use Rattle.lists.specs.Ladder.{ladder-value}
 use Rattle.lists.specs.Tests.{and-left, and-right}
-use Rattle.tlv.specs.Header.{wordAt, typeAt, lengthAt, sizeAt, fixedAt, isPower}
+use Rattle.header.specs.Header.{wordAt, typeAt, lengthAt, sizeAt, fixedAt, isPower}
 use Rattle.tlv.specs.Laws.{Boundary, start, next, PowerAt, OnePower, FoundPower, TakenPower}
-use Rattle.tlv.specs.Search.{powers, powersIn, searchRefusals, partAt, searchOf}
-use Rattle.tlv.specs.Walk.{stepOf, Walk, onward, walk, walkFrom}
-use Rattle.tlv.specs.Walked as Walked
-use Rattle.tlv.specs.declared.walk.Step.{Step}
-use Rattle.tlv.specs.declared.walk.Step.the-variants.{End, Cut, Tlv}
-use Rattle.tlv.specs.declared.search.Searched.the-variants.{Is, Refused}
+use Rattle.search.specs.Search.{powers, powersIn, searchRefusals, partAt, searchOf}
+use Rattle.walk.specs.Walk.{stepOf, Walk, onward, walk, walkFrom}
+use Rattle.walk.specs.Walked as Walked
+use Rattle.walk.specs.declared.Step.{Step}
+use Rattle.walk.specs.declared.Step.the-variants.{End, Cut, Tlv}
+use Rattle.search.specs.declared.Searched.the-variants.{Is, Refused}
 use Rattle.tlv.proofs.Again.{taken}
-use Rattle.tlv.proofs.Fixed.{spelt}
-use Rattle.tlv.proofs.One.{whole, power}
+use Rattle.header.proofs.Fixed.{spelt}
+use Rattle.reader.proofs.One.{whole, power}
 
 -- each place has one, of the size that its header says
 abbrev Every : List ℕ → List ℕ → Type 0

@@ -5,16 +5,16 @@ use mathlib.Core.List.{List, [], _∷_, _++_, map}
 use Prim.Native.Nat.{ℕ}
 use lib.ListN.{take}
 use Rattle.lists.specs.Bits.{field}
-use Rattle.tlv.specs.Fields.{outside, badValues}
-use Rattle.tlv.specs.Header.{wordAt, typeAt, lengthAt, sizeAt, standsAt, fixedAt, isPower}
-use Rattle.tlv.specs.Read.{cut, exactlyOne, addedIn, formIn, fieldsIn, readOf}
-use Rattle.tlv.specs.Search.{isCut, powers, searchOf}
-use Rattle.tlv.specs.Walk.{stepOf, walk, walkFrom}
-use Rattle.tlv.specs.Write.{bytesOf}
-use Rattle.tlv.specs.declared.fields.Fields.{Fields}
-use Rattle.tlv.specs.declared.fields.Form.the-variants.{Long}
-use Rattle.tlv.specs.declared.read.Taken.the-variants.{Is, Refused as No}
-use Rattle.tlv.specs.declared.search.Searched.the-variants.{Is as Found, Refused}
+use Rattle.fields.specs.Fields.{outside, badValues}
+use Rattle.header.specs.Header.{wordAt, typeAt, lengthAt, sizeAt, standsAt, fixedAt, isPower}
+use Rattle.reader.specs.Read.{cut, exactlyOne, addedIn, formIn, fieldsIn, readOf}
+use Rattle.search.specs.Search.{isCut, powers, searchOf}
+use Rattle.walk.specs.Walk.{stepOf, walk, walkFrom}
+use Rattle.writer.specs.Write.{bytesOf}
+use Rattle.fields.specs.declared.Fields.{Fields}
+use Rattle.fields.specs.declared.Form.the-variants.{Long}
+use Rattle.reader.specs.declared.Taken.the-variants.{Is, Refused as No}
+use Rattle.search.specs.declared.Searched.the-variants.{Is as Found, Refused}
 
 -- "Whole case: `FE 0C 00 12 0F 02 00 01 05 52 00 FF 00 82`"
 abbrev pub wholeBytes : List ℕ

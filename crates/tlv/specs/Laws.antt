@@ -7,16 +7,16 @@ use lib.Dec.{ltb}
 use lib.ListN.{length, getD, take, drop}
 use Rattle.lists.specs.Bits.{field}
 use Rattle.lists.specs.Table.{all}
-use Rattle.tlv.specs.Header.{sizeAt, isPower}
-use Rattle.tlv.specs.Read.{readOf}
-use Rattle.tlv.specs.Search.{searchOf}
-use Rattle.tlv.specs.Walk.{stepOf}
-use Rattle.tlv.specs.Write.{writtenOf, roomAfter}
-use Rattle.tlv.specs.declared.fields.Fields.{Fields}
-use Rattle.tlv.specs.declared.read.Taken.the-variants.{Is as Taken}
-use Rattle.tlv.specs.declared.walk.Step.the-variants.{Tlv}
-use Rattle.tlv.specs.declared.search.Searched.the-variants.{Is as Found}
-use Rattle.tlv.specs.declared.write.Written.the-variants.{Is as Wrote}
+use Rattle.header.specs.Header.{sizeAt, isPower}
+use Rattle.reader.specs.Read.{readOf}
+use Rattle.search.specs.Search.{searchOf}
+use Rattle.walk.specs.Walk.{stepOf}
+use Rattle.writer.specs.Write.{writtenOf, roomAfter}
+use Rattle.fields.specs.declared.Fields.{Fields}
+use Rattle.reader.specs.declared.Taken.the-variants.{Is as Taken}
+use Rattle.walk.specs.declared.Step.the-variants.{Tlv}
+use Rattle.search.specs.declared.Searched.the-variants.{Is as Found}
+use Rattle.writer.specs.declared.Written.the-variants.{Is as Wrote}
 
 -- "Whatever is written reads back as written"
 abbrev pub WrittenReads : Type 0

@@ -1,10 +1,2 @@
 pub mod Cases
-pub mod Fields
-pub mod Header
 pub mod Laws
-pub mod Read
-pub mod Search
-pub mod Seen
-pub mod Walk
-pub mod Walked
-pub mod Write

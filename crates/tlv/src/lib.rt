@@ -1,7 +1,1 @@
-// The LLDP power TLV: its fields, a reader, a writer, and a search of a PDU for it.
-pub mod fields;
-mod header;
-pub mod read;
-pub mod search;
-pub mod walk;
-pub mod write;
+// What holds of the reader, the writer and the search of the LLDP power TLV together: laws and cases, and no code.

@@ -1,7 +1,7 @@
 // The test that every call makes first of the cells that it is lent: refusal 13. Tests of bits and comparisons with no branch, so that a
 // compiler does them for eight ports at once.
+use class::BUDGETS;
 use power::Power;
-use reading::class::BUDGETS;
 ghost use mathlib.Core.Path.{_≡_};
 ghost use mathlib.Core.Bool.{not};
 ghost use Prim.Native.Nat.{_<_, _≤_, max};
@@ -9,8 +9,8 @@ ghost use lib.Dec.{leb};
 ghost use lib.ListN.{length};
 ghost use Rattle.lists.specs.Bits.{one};
 ghost use Rattle.power.specs.Power.{tenths};
-ghost use Rattle.reading.specs.Class.{isDemand};
-ghost use Rattle.words.specs.Control.{refused};
+ghost use Rattle.class.specs.Class.{isDemand};
+ghost use Rattle.control.specs.Control.{refused};
 ghost use Rattle.table.specs.Head.{wellCounts, wellHead};
 ghost use Rattle.cells.specs.Cells.{cellsLong, countsOf};
 ghost use Rattle.well.specs.Judged.{portFine, headCells, wellCells};

@@ -13,7 +13,7 @@ use Rattle.lists.specs.Bits.{above}
 use Rattle.lists.specs.Every.{every, every-next, every-cong}
 use Rattle.lists.specs.Places.{Filled, filled-none, filled-more, filled-below}
 use Rattle.lists.specs.Tests.{not-leb}
-use Rattle.reading.specs.Sample.{reservedFlags}
+use Rattle.sample.specs.Sample.{reservedFlags}
 use Rattle.block.specs.Flags.{flagsOfPort, flagsFine, flagLane, low, eightOf, eightLaid}
 use Rattle.block.proofs.all_flags.Statement.{statement}
 use Rattle.block.proofs.all_flags.Tie as tie

@@ -3,7 +3,7 @@
 use Prim.Native.Nat.{ℕ, _+_, _*_}
 use native.Mathlib.Omega.{arith}
 use borrow.Author.Needs.{needs}
-use Rattle.reading.specs.Sample.{wordAt, sampleAt}
+use Rattle.sample.specs.Sample.{wordAt, sampleAt}
 use Rattle.block.specs.Flags.{flagsOfPort}
 use Rattle.block.proofs.flags_at.Statement.{statement}
 use Rattle.block.proofs.flags_at.Tie as tie

@@ -9,8 +9,8 @@ use borrow.Author.Tests.{not-true, not-false}
 use lib.ListN.{set}
 use denote.Ref.{now}
 use Rattle.lists.specs.Tests.{not-or}
-use Rattle.words.specs.Control.{refused}
-use Rattle.words.specs.Laws.{taken-small}
+use Rattle.control.specs.Control.{refused}
+use Rattle.control.specs.Laws.{taken-small}
 use Rattle.port.specs.States.{inDisabled}
 use Rattle.port.specs.declared.form.State.{State}
 use Rattle.table.specs.Form.{portAt, withPort, done, refuse}

@@ -8,7 +8,7 @@ use lib.ListN.{getD, set}
 use denote.Ref.{now}
 use Rattle.power.specs.Power.{atMost, over}
 use Rattle.power.specs.declared.Power.{Power}
-use Rattle.reading.specs.Class.{budgetOf}
+use Rattle.class.specs.Class.{budgetOf}
 use Rattle.port.specs.States.{inPowerOn}
 use Rattle.table.specs.Form.{portAt, done, refuse}
 use Rattle.table.specs.Laws.{over-is}

@@ -8,8 +8,8 @@ use lib.Dec.{eqb}
 use borrow.Author.Needs.{needs}
 use Rattle.lists.specs.Bits.{field, choose, one}
 use Rattle.lists.specs.Places.{tabulate, tabulate-at}
-use Rattle.words.specs.Control.{pairOf}
-use Rattle.words.specs.declared.control.Pair.the-variants.{Neither, A, B, Both}
+use Rattle.control.specs.Control.{pairOf}
+use Rattle.control.specs.declared.Pair.the-variants.{Neither, A, B, Both}
 use Rattle.port.specs.States.{closed}
 use Rattle.port.specs.declared.form.State.{State}
 use Rattle.boards.specs.Masks.{namesA, namesB}

@@ -7,8 +7,8 @@ use lib.ListN.{getD}
 use denote.Ref.{now}
 use borrow.Author.Needs.{needs}
 use Rattle.power.specs.Power.{tenths}
-use Rattle.reading.specs.Class.{isDemand}
-use Rattle.words.specs.Control.{refused}
+use Rattle.class.specs.Class.{isDemand}
+use Rattle.control.specs.Control.{refused}
 use Rattle.table.specs.Head.{wellCounts, well-port-is}
 use Rattle.cells.specs.Cells.{countsOf, portOf, portHolds}
 use Rattle.well.specs.Judged.{portFine}

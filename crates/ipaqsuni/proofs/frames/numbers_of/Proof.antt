@@ -1,7 +1,7 @@
 -- `numbers_of` is `numbersOf`: five numbers of a narrow form fit 32 bits.
 -- Assumes nothing.
 use borrow.Author.Needs.{needs}
-use Rattle.tlv.specs.declared.fields.Form.the-variants.{Long}
+use Rattle.fields.specs.declared.Form.the-variants.{Long}
 use Rattle.ipaqsuni.specs.Tlv.{Narrow, numbersOf}
 use Rattle.ipaqsuni.proofs.frames.numbers_of.Statement.{statement}
 use Rattle.ipaqsuni.proofs.frames.numbers_of.Tie as tie

@@ -6,10 +6,10 @@ use Prim.Native.Nat.{ℕ, _*_, _/_, _<_}
 use lib.ListN.{length}
 use borrow.Author.Needs.{needs}
 use borrow.Author.Tests.{lt-ltb}
-use Rattle.reading.specs.Sample.{sampleAt, sampleOf}
-use Rattle.reading.specs.declared.sample.Sample.{Sample}
-use Rattle.reading.specs.declared.sample.Sampled.{Sampled}
-use Rattle.reading.specs.declared.sample.Sampled.the-variants.{Is, Cut}
+use Rattle.sample.specs.Sample.{sampleAt, sampleOf}
+use Rattle.sample.specs.declared.Sample.{Sample}
+use Rattle.sample.specs.declared.Sampled.{Sampled}
+use Rattle.sample.specs.declared.Sampled.the-variants.{Is, Cut}
 use denote.Ref.{now}
 use Rattle.tick.proofs.steps.sample.Statement.{statement}
 use Rattle.tick.proofs.steps.sample.Tie as tie

@@ -1,0 +1,76 @@
+// The class that one or two currents (µA) show, and what a port of a class may draw.
+use power::Power;
+ghost use mathlib.Core.Path.{_≡_};
+ghost use Rattle.class.specs.Class.{classOf, isFour, classOfTwo, budgetOf, isDemand};
+
+pub enum Class {
+    Is(u8),
+    Failure,
+}
+
+pub fn class_of(current: u16) -> Class
+    ensures { λ r. ⌜ r ≡ classOf current ⌝ }
+{
+    match current {
+        0..=5_000 => Class::Is(0),
+        5_001..=13_000 => Class::Is(1),
+        13_001..=21_000 => Class::Is(2),
+        21_001..=31_000 => Class::Is(3),
+        31_001..=45_000 => Class::Is(4),
+        _ => Class::Failure,
+    }
+}
+
+fn is_four(class: Class) -> bool
+    ensures { λ r. ⌜ r ≡ isFour class ⌝ }
+{
+    match class {
+        Class::Is(k) => k == 4,
+        Class::Failure => false,
+    }
+}
+
+// Document 01: "If C1 reads class 4, C2 must too, else failure .. With any other class C2 isn't looked at."
+pub fn class_of_two(c1: u16, c2: u16) -> Class
+    ensures { λ r. ⌜ r ≡ classOfTwo c1 c2 ⌝ }
+{
+    let first = class_of(c1);
+    if !is_four(first) {
+        return first;
+    }
+    if is_four(class_of(c2)) {
+        Class::Is(4)
+    } else {
+        Class::Failure
+    }
+}
+
+// In tenths of a watt, by class: what a port of a class may draw, and what a port may be granted.
+pub const BUDGETS: [u16; 5] = [154, 40, 70, 154, 300];
+
+// A number that is no class has no budget.
+pub fn budget(class: u8) -> Power
+    ensures { λ r. ⌜ r ≡ budgetOf class ⌝ }
+{
+    if class < 5 {
+        Power(BUDGETS[class as usize])
+    } else {
+        Power::ZERO
+    }
+}
+
+// Half of each budget, in the byte that this half modulo 8 names: no two budgets share a byte, and a byte that none has is 0.
+// So a demand is told with no branch, as it is asked of 48 ports in every tick.
+const HALVES: u64 = ((BUDGETS[1] as u64 / 2) << (BUDGETS[1] / 2 % 8 * 8))
+    + ((BUDGETS[2] as u64 / 2) << (BUDGETS[2] / 2 % 8 * 8))
+    + ((BUDGETS[3] as u64 / 2) << (BUDGETS[3] / 2 % 8 * 8))
+    + ((BUDGETS[4] as u64 / 2) << (BUDGETS[4] / 2 % 8 * 8));
+
+// A demand that a port of a well-made table may have: none, or a class's budget.
+pub fn is_demand(demand: Power) -> bool
+    ensures { λ r. ⌜ r ≡ isDemand demand ⌝ }
+{
+    let d = demand.0;
+    let place = d / 2 % 8 * 8;
+    (HALVES >> place) % 256 * 2 == d as u64
+}

@@ -1,4 +1,0 @@
-pub mod Class
-pub mod Laws
-pub mod Sample
-pub mod Signature

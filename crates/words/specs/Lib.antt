@@ -1,3 +1,0 @@
-pub mod Control
-pub mod Laws
-pub mod Status
