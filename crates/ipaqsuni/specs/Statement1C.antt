@@ -39,7 +39,7 @@ use Rattle.ipaqsuni.specs.Tlv.{ofSearch, ofRead, ofWrite, findCall, offs
 abbrev pub firstNumber : List (ℕ × Bool) → ℕ
 firstNumber rs = ladder rs (λ k. k) 0
 
--- include/ipaqsuni.h: "Refused: 13 for another number of cells than IPAQSUNI_CELLS", then document 01's 2
+-- include/ipaqsuni.h: "Refused: 13 for another length than IPAQSUNI_CELLS, then 2."
 abbrev pub startList : List ℕ → ℕ → List (ℕ × Bool)
 startList cells ports = (13, not (eqb (length cells) cellsLong)) ∷ coldRefusals ports
 

@@ -1,0 +1,3 @@
+pub mod Alike
+pub mod Numbers
+pub mod Held

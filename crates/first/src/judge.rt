@@ -1,0 +1,44 @@
+// What a call did, held against the first number whose condition holds (0 if none does).
+use verdict::Verdict;
+ghost use mathlib.Core.Path.{_≡_};
+ghost use mathlib.Core.Bool.{cond, not, _&&_};
+ghost use lib.Dec.{eqb};
+ghost use Rattle.first.specs.Alike.{alike};
+
+// As many cells, and each holds the same.
+pub fn same(before: &[u16], cells: &[u16]) -> bool
+    ensures { λ r. ⌜ r ≡ alike (now (before .entry)) (now (cells .entry)) ⌝ }
+{
+    if before.len() != cells.len() {
+        return false;
+    }
+    let mut all = true;
+    let mut k = 0;
+    while k < before.len() {
+        all = all & (before[k] == cells[k]);
+        k += 1;
+    }
+    all
+}
+
+// A call that answered: no condition may hold.
+pub fn answered(first: u8) -> Verdict
+    ensures { λ r. ⌜ r ≡ cond (eqb first 0) Verdict.Held Verdict.Broken ⌝ }
+{
+    if first == 0 {
+        Verdict::Held
+    } else {
+        Verdict::Broken
+    }
+}
+
+// A call that refused: with the first number, and nothing was changed. No refusal is numbered 0.
+pub fn refused(first: u8, number: u8, unchanged: bool) -> Verdict
+    ensures { λ r. ⌜ r ≡ cond (((eqb number first && not (eqb number 0)) && unchanged)) Verdict.Held Verdict.Broken ⌝ }
+{
+    if (number == first) & (number != 0) & unchanged {
+        Verdict::Held
+    } else {
+        Verdict::Broken
+    }
+}
