@@ -21,6 +21,22 @@ pub fn same(before: &[u16], cells: &[u16]) -> bool
     all
 }
 
+// The same of bytes.
+pub fn same_bytes(before: &[u8], room: &[u8]) -> bool
+    ensures { λ r. ⌜ r ≡ alike (now (before .entry)) (now (room .entry)) ⌝ }
+{
+    if before.len() != room.len() {
+        return false;
+    }
+    let mut all = true;
+    let mut k = 0;
+    while k < before.len() {
+        all = all & (before[k] == room[k]);
+        k += 1;
+    }
+    all
+}
+
 // A call that answered: no condition may hold.
 pub fn answered(first: u8) -> Verdict
     ensures { λ r. ⌜ r ≡ cond (eqb first 0) Verdict.Held Verdict.Broken ⌝ }

@@ -174,8 +174,13 @@ read-number : (tlv : List ℕ) → numberOf (readCall tlv) ≡ firstNumber (read
 unfolding readCall readOf
 read-number tlv = ladder-part (λ r. numberOf (ofRead r)) NotTaken _ (readRefusals tlv)
 
+-- of any fields, those that no nine numbers give among them
+pub written-number : (f : Fields) (room after : List ℕ) → numberOf (ofWrite after (writtenOf f room)) ≡ firstNumber (writeRefusals f room)
+unfolding writtenOf
+written-number f room after = ladder-part (λ w. numberOf (ofWrite after w)) NotWritten _ (writeRefusals f room)
+
 write-number : (fields room : List ℕ) → numberOf (writeCall fields room) ≡ firstNumber (writeList fields room)
-unfolding writeCall writtenOf
+unfolding writeCall
 write-number fields room = go (noFields fields)
   where
     f : Fields
@@ -183,7 +188,7 @@ write-number fields room = go (noFields fields)
 
     go : (b : Bool) → numberOf (cond b (refused 3) (ofWrite (tlvAfter f room) (writtenOf f room))) ≡ firstNumber ((3, b) ∷ writeRefusals f room)
     go true = refl
-    go false = ladder-part (λ w. numberOf (ofWrite (tlvAfter f room) w)) NotWritten _ (writeRefusals f room)
+    go false = written-number f room (tlvAfter f room)
 
 pub statement-1-c : FirstC
 statement-1-c =

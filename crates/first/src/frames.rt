@@ -1,0 +1,54 @@
+// The calls on frames. The search and the reader have nothing lent that they could write, and are asked with whatever bytes there are. The
+// writer is handed its room twice: what is lent to the core, and `before`, which holds the same and which the core never sees.
+use crate::judge::answered;
+use crate::judge::refused;
+use crate::judge::same_bytes;
+use order_frames::read_number;
+use order_frames::search_number;
+use order_frames::write_number;
+use tlv::fields::Fields;
+use tlv::read::Taken;
+use tlv::read::read;
+use tlv::search::Searched;
+use tlv::search::search;
+use tlv::write::Written;
+use tlv::write::write;
+use verdict::Verdict;
+ghost use mathlib.Core.Path.{_≡_};
+ghost use mathlib.Core.Bool.{cond};
+ghost use Rattle.tlv.specs.Write.{roomAfter};
+ghost use Rattle.first.specs.Alike.{alike};
+
+pub fn first_search(pdu: &[u8]) -> Verdict
+    ensures { λ r. ⌜ r ≡ Verdict.Held ⌝ }
+{
+    let first = search_number(pdu);
+    match search(pdu) {
+        Searched::Is(_, _) => answered(first),
+        Searched::Refused(number) => refused(first, number, true),
+    }
+}
+
+pub fn first_read(bytes: &[u8]) -> Verdict
+    ensures { λ r. ⌜ r ≡ Verdict.Held ⌝ }
+{
+    let first = read_number(bytes);
+    match read(bytes) {
+        Taken::Is(_) => answered(first),
+        Taken::Refused(number) => refused(first, number, true),
+    }
+}
+
+pub fn first_write(fields: Fields, room: &mut [u8], before: &[u8]) -> Verdict
+    ensures { λ r. ⌜ r ≡ cond (alike (now (before .entry)) (now (room .entry))) Verdict.Held Verdict.NotAsked ⌝ }
+    ensures { λ _. ⌜ now (room .exit) ≡ cond (alike (now (before .entry)) (now (room .entry))) (roomAfter fields (now (room .entry))) (now (room .entry)) ⌝ }
+{
+    if !same_bytes(before, room) {
+        return Verdict::NotAsked;
+    }
+    let first = write_number(fields, room);
+    match write(fields, room) {
+        Written::Is(_) => answered(first),
+        Written::Refused(number) => refused(first, number, same_bytes(before, room)),
+    }
+}
