@@ -22,20 +22,20 @@ ghost use Rattle.first.specs.Alike.{alike};
 pub fn first_search(pdu: &[u8]) -> Verdict
     ensures { λ r. ⌜ r ≡ Verdict.Held ⌝ }
 {
-    let first = search_number(pdu);
+    let search_due = search_number(pdu);
     match search(pdu) {
-        Searched::Is(_, _) => answered(first),
-        Searched::Refused(number) => refused(first, number, true),
+        Searched::Is(_, _) => answered(search_due),
+        Searched::Refused(number) => refused(search_due, number, true),
     }
 }
 
 pub fn first_read(bytes: &[u8]) -> Verdict
     ensures { λ r. ⌜ r ≡ Verdict.Held ⌝ }
 {
-    let first = read_number(bytes);
+    let read_due = read_number(bytes);
     match read(bytes) {
-        Taken::Is(_) => answered(first),
-        Taken::Refused(number) => refused(first, number, true),
+        Taken::Is(_) => answered(read_due),
+        Taken::Refused(number) => refused(read_due, number, true),
     }
 }
 
@@ -46,9 +46,9 @@ pub fn first_write(fields: Fields, room: &mut [u8], before: &[u8]) -> Verdict
     if !same_bytes(before, room) {
         return Verdict::NotAsked;
     }
-    let first = write_number(fields, room);
+    let write_due = write_number(fields, room);
     match write(fields, room) {
-        Written::Is(_) => answered(first),
-        Written::Refused(number) => refused(first, number, same_bytes(before, room)),
+        Written::Is(_) => answered(write_due),
+        Written::Refused(number) => refused(write_due, number, same_bytes(before, room)),
     }
 }

@@ -1,4 +1,4 @@
-// What a call did, held against the first number whose condition holds (0 if none does).
+// What a call did, held against the number that is due: the first whose condition holds, and 0 if none does.
 use verdict::Verdict;
 ghost use mathlib.Core.Path.{_≡_};
 ghost use mathlib.Core.Bool.{cond, not, _&&_};
@@ -29,30 +29,30 @@ pub fn same_bytes(before: &[u8], room: &[u8]) -> bool
         return false;
     }
     let mut all = true;
-    let mut k = 0;
-    while k < before.len() {
-        all = all & (before[k] == room[k]);
-        k += 1;
+    let mut at = 0;
+    while at < before.len() {
+        all = all & (before[at] == room[at]);
+        at += 1;
     }
     all
 }
 
 // A call that answered: no condition may hold.
-pub fn answered(first: u8) -> Verdict
-    ensures { λ r. ⌜ r ≡ cond (eqb first 0) Verdict.Held Verdict.Broken ⌝ }
+pub fn answered(due: u8) -> Verdict
+    ensures { λ r. ⌜ r ≡ cond (eqb due 0) Verdict.Held Verdict.Broken ⌝ }
 {
-    if first == 0 {
+    if due == 0 {
         Verdict::Held
     } else {
         Verdict::Broken
     }
 }
 
-// A call that refused: with the first number, and nothing was changed. No refusal is numbered 0.
-pub fn refused(first: u8, number: u8, unchanged: bool) -> Verdict
-    ensures { λ r. ⌜ r ≡ cond (((eqb number first && not (eqb number 0)) && unchanged)) Verdict.Held Verdict.Broken ⌝ }
+// A call that refused: the number is the one that is due, and nothing was changed. No refusal is numbered 0.
+pub fn refused(due: u8, number: u8, unchanged: bool) -> Verdict
+    ensures { λ r. ⌜ r ≡ cond ((eqb number due && not (eqb number 0)) && unchanged) Verdict.Held Verdict.Broken ⌝ }
 {
-    if (number == first) & (number != 0) & unchanged {
+    if (number == due) & (number != 0) & unchanged {
         Verdict::Held
     } else {
         Verdict::Broken

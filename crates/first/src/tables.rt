@@ -7,11 +7,11 @@ use calls::cold_start;
 use calls::read_status;
 use calls::request;
 use calls::write_control;
-use order::control_number;
-use order::request_number;
-use order::start_number;
-use order::status_number;
-use order::tick_number;
+use order::control::control_number;
+use order::request::request_number;
+use order::start::start_number;
+use order::status::status_number;
+use order::ticking::tick_number;
 use table::form::Answer;
 use table::form::Closed;
 use table::form::Status;
@@ -31,10 +31,10 @@ pub fn first_start(cells: &mut [u16], before: &[u16], ports: u64) -> Verdict
     if !same(before, cells) {
         return Verdict::NotAsked;
     }
-    let first = start_number(cells, ports);
+    let start_due = start_number(cells, ports);
     match cold_start(cells, ports) {
-        Answer::Done => answered(first),
-        Answer::Refused(number) => refused(first, number, same(before, cells)),
+        Answer::Done => answered(start_due),
+        Answer::Refused(number) => refused(start_due, number, same(before, cells)),
     }
 }
 
@@ -45,10 +45,10 @@ pub fn first_control(cells: &mut [u16], before: &[u16], port: u64, word: u64) ->
     if !same(before, cells) {
         return Verdict::NotAsked;
     }
-    let first = control_number(cells, port, word);
+    let control_due = control_number(cells, port, word);
     match write_control(cells, port, word) {
-        Answer::Done => answered(first),
-        Answer::Refused(number) => refused(first, number, same(before, cells)),
+        Answer::Done => answered(control_due),
+        Answer::Refused(number) => refused(control_due, number, same(before, cells)),
     }
 }
 
@@ -59,10 +59,10 @@ pub fn first_status(cells: &mut [u16], before: &[u16], port: u64) -> Verdict
     if !same(before, cells) {
         return Verdict::NotAsked;
     }
-    let first = status_number(cells, port);
+    let status_due = status_number(cells, port);
     match read_status(cells, port) {
-        Status::Word(_) => answered(first),
-        Status::Refused(number) => refused(first, number, same(before, cells)),
+        Status::Word(_) => answered(status_due),
+        Status::Refused(number) => refused(status_due, number, same(before, cells)),
     }
 }
 
@@ -73,10 +73,10 @@ pub fn first_request(cells: &mut [u16], before: &[u16], port: u64, value: u64) -
     if !same(before, cells) {
         return Verdict::NotAsked;
     }
-    let first = request_number(cells, port, value);
+    let request_due = request_number(cells, port, value);
     match request(cells, port, value) {
-        Answer::Done => answered(first),
-        Answer::Refused(number) => refused(first, number, same(before, cells)),
+        Answer::Done => answered(request_due),
+        Answer::Refused(number) => refused(request_due, number, same(before, cells)),
     }
 }
 
@@ -87,9 +87,9 @@ pub fn first_tick(cells: &mut [u16], before: &[u16], block: &[u8], figure: u64) 
     if !same(before, cells) {
         return Verdict::NotAsked;
     }
-    let first = tick_number(cells, block, figure);
+    let tick_due = tick_number(cells, block, figure);
     match tick(cells, block, figure) {
-        Closed::Ports(_, _, _) => answered(first),
-        Closed::Refused(number) => refused(first, number, same(before, cells)),
+        Closed::Ports(_, _, _) => answered(tick_due),
+        Closed::Refused(number) => refused(tick_due, number, same(before, cells)),
     }
 }

@@ -14,10 +14,10 @@ use Rattle.first.proofs.judge.same_bytes.Statement.{statement}
 use Rattle.first.proofs.judge.same_bytes.Tie as tie
 
 abbrev Inv-loop : tie.InvT-loop
-Inv-loop before room all₀ k₀ all k = (k ≤ length before) × (all ≡ every k (λ j. eqb (getD before j 0) (getD room j 0)))
+Inv-loop before room all₀ at₀ all at = (at ≤ length before) × (all ≡ every at (λ j. eqb (getD before j 0) (getD room j 0)))
 
 abbrev μ-loop : tie.MeasureT-loop
-μ-loop before room all₀ k₀ all k = length before - k
+μ-loop before room all₀ at₀ all at = length before - at
 
 pub same-bytes-spec : {M : Type 1} → statement M
 unfolding alike every
@@ -34,9 +34,9 @@ same-bytes-spec =
     (λ c. omega arith)
     (λ c.
     let k = c .before .before .before .loop in
-    (omega arith, ap (λ (b : Bool). b && eqb (getD (now (c .before .before .before .before .before .args .before)) (k .k) 0) (getD (now (c .before .before .before .before .before .args .room)) (k .k) 0)) (k .inv .1) ∙ sym (every-next (k .k) (λ j. eqb (getD (now (c .before .before .before .before .before .args .before)) j 0) (getD (now (c .before .before .before .before .before .args .room)) j 0)))))
+    (omega arith, ap (λ (b : Bool). b && eqb (getD (now (c .before .before .before .before .before .args .before)) (k .at) 0) (getD (now (c .before .before .before .before .before .args .room)) (k .at) 0)) (k .inv .1) ∙ sym (every-next (k .at) (λ j. eqb (getD (now (c .before .before .before .before .before .args .before)) j 0) (getD (now (c .before .before .before .before .before .args .room)) j 0)))))
     (λ c.
     let a = now (c .before .before .before .args .before) in
     let b = now (c .before .before .before .args .room) in
-    let e : c .before .loop .k ≡ length a = le-antisymm (c .before .loop .inv .0) (omega arith) in
+    let e : c .before .loop .at ≡ length a = le-antisymm (c .before .loop .inv .0) (omega arith) in
     c .before .loop .inv .1 ∙ ap (λ (n : ℕ). every n (λ j. eqb (getD a j 0) (getD b j 0))) e ∙ sym (simp (eq-eqb _ _ (c .before .before .if1 .left)))))

@@ -15,8 +15,8 @@ use Rattle.calls.specs.OnLaws.{at-port}
 use Rattle.order.specs.Order.{ill-first, well-first, well-of, well-cells-of, power-on-at, class-over, supply-over}
 use borrow.Author.Needs.{needs}
 use native.Mathlib.Omega.{arith}
-use Rattle.order.proofs.request_number.Statement.{statement}
-use Rattle.order.proofs.request_number.Tie as tie
+use Rattle.order.proofs.request.request_number.Statement.{statement}
+use Rattle.order.proofs.request.request_number.Tie as tie
 
 pub request-number-spec : {M : Type 1} → statement M
 unfolding tableOf

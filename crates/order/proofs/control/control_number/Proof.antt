@@ -10,8 +10,8 @@ use Rattle.calls.specs.OnLaws.{at-port}
 use Rattle.order.specs.Order.{ill-first, well-first, well-of, well-cells-of, alternative-at}
 use borrow.Author.Needs.{needs}
 use native.Mathlib.Omega.{arith}
-use Rattle.order.proofs.control_number.Statement.{statement}
-use Rattle.order.proofs.control_number.Tie as tie
+use Rattle.order.proofs.control.control_number.Statement.{statement}
+use Rattle.order.proofs.control.control_number.Tie as tie
 
 pub control-number-spec : {M : Type 1} → statement M
 unfolding tableOf

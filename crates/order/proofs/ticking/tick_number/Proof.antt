@@ -8,8 +8,8 @@ use Rattle.tick.specs.Tick.{flagsReserved, tickRefusals}
 use Rattle.order.specs.Order.{ill-first, well-first, well-cells-of}
 use borrow.Author.Needs.{needs}
 use native.Mathlib.Omega.{arith}
-use Rattle.order.proofs.tick_number.Statement.{statement}
-use Rattle.order.proofs.tick_number.Tie as tie
+use Rattle.order.proofs.ticking.tick_number.Statement.{statement}
+use Rattle.order.proofs.ticking.tick_number.Tie as tie
 
 pub tick-number-spec : {M : Type 1} → statement M
 unfolding tableOf flagsReserved

@@ -1,7 +1,7 @@
 -- `start_number`: the number of the cells, and then 2. Assumes nothing.
 use borrow.Author.Tests.{eq-eqb, ne-eqb}
-use Rattle.order.proofs.start_number.Statement.{statement}
-use Rattle.order.proofs.start_number.Tie as tie
+use Rattle.order.proofs.start.start_number.Statement.{statement}
+use Rattle.order.proofs.start.start_number.Tie as tie
 
 pub start-number-spec : {M : Type 1} → statement M
 start-number-spec =

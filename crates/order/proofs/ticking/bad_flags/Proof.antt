@@ -12,8 +12,8 @@ use Rattle.reading.specs.Sample.{wordAt, sampleAt, reservedFlags}
 use Rattle.order.specs.Order.{some-next}
 use borrow.Author.Needs.{needs}
 use native.Mathlib.Omega.{arith}
-use Rattle.order.proofs.bad_flags.Statement.{statement}
-use Rattle.order.proofs.bad_flags.Tie as tie
+use Rattle.order.proofs.ticking.bad_flags.Statement.{statement}
+use Rattle.order.proofs.ticking.bad_flags.Tie as tie
 
 abbrev badAt : List ℕ → ℕ → Bool
 badAt block p = reservedFlags (sampleAt block (14 * p) .flags)

@@ -8,8 +8,8 @@ use Rattle.calls.specs.Calls.{statusRefusals}
 use Rattle.order.specs.Order.{ill-first, well-first, well-cells-of}
 use borrow.Author.Needs.{needs}
 use native.Mathlib.Omega.{arith}
-use Rattle.order.proofs.status_number.Statement.{statement}
-use Rattle.order.proofs.status_number.Tie as tie
+use Rattle.order.proofs.status.status_number.Statement.{statement}
+use Rattle.order.proofs.status.status_number.Tie as tie
 
 pub status-number-spec : {M : Type 1} → statement M
 unfolding tableOf
