@@ -6,8 +6,8 @@ use Prim.Native.Nat.{ℕ}
 use mathlib.Core.Path.{_≡_, sym, _∙_}
 use mathlib.Core.Bool.{Bool, cond}
 use mathlib.Core.List.{List}
-use Rattle.verdict.specs.declared.Verdict as declared
-use Rattle.verdict.specs.declared.Verdict.the-variants as Verdict
+use Rattle.verdict.specs.declared.Verdict.{Verdict}
+use Rattle.verdict.specs.declared.Verdict.the-variants.{Held, NotAsked}
 use Rattle.words.specs.Control.{refused}
 use Rattle.cells.specs.Lent.{cellsTold, cellsRead, cellsTicked, cellsCold}
 use Rattle.calls.specs.OnCells.{startOn, controlOn, statusOn, requestOn}
@@ -25,8 +25,8 @@ abbrev pub One : (A : Type 0) → (A → Type 0) → Type 0
 One A promise = (r s : A) → promise r → promise s → r ≡ s
 
 -- the same of a verdict and what lent cells or a lent room then hold
-abbrev pub OneWith : (declared.Verdict → List ℕ → Type 0) → Type 0
-OneWith promise = (r s : declared.Verdict) (b c : List ℕ) → promise r b → promise s c → (r ≡ s) × (b ≡ c)
+abbrev pub OneWith : (Verdict → List ℕ → Type 0) → Type 0
+OneWith promise = (r s : Verdict) (b c : List ℕ) → promise r b → promise s c → (r ≡ s) × (b ≡ c)
 
 pub record Unique : Type 0 where
   pub ill-bad-word : (word : ℕ) → One Bool (λ r. r ≡ refused word)
@@ -39,19 +39,19 @@ pub record Unique : Type 0 where
   pub order-frames-search-number : (pdu : List ℕ) → One ℕ (λ r. r ≡ firstNumber (searchRefusals pdu))
   pub order-frames-read-number : (bytes : List ℕ) → One ℕ (λ r. r ≡ firstNumber (readRefusals bytes))
   pub order-frames-write-number : (fields : Fields) (room : List ℕ) → One ℕ (λ r. r ≡ firstNumber (writeRefusals fields room))
-  pub first-tables-first-start : (cells before : List ℕ) (ports : ℕ) → OneWith (λ r cells'. (r ≡ cond (alike before cells) Verdict.Held Verdict.NotAsked) × (cells' ≡ cond (alike before cells) (cellsCold (startOn cells ports) cells) cells))
-  pub first-tables-first-control : (cells before : List ℕ) (port word : ℕ) → OneWith (λ r cells'. (r ≡ cond (alike before cells) Verdict.Held Verdict.NotAsked) × (cells' ≡ cond (alike before cells) (cellsTold (controlOn cells port word) cells) cells))
-  pub first-tables-first-status : (cells before : List ℕ) (port : ℕ) → OneWith (λ r cells'. (r ≡ cond (alike before cells) Verdict.Held Verdict.NotAsked) × (cells' ≡ cond (alike before cells) (cellsRead (statusOn cells port) cells) cells))
-  pub first-tables-first-request : (cells before : List ℕ) (port value : ℕ) → OneWith (λ r cells'. (r ≡ cond (alike before cells) Verdict.Held Verdict.NotAsked) × (cells' ≡ cond (alike before cells) (cellsTold (requestOn cells port value) cells) cells))
-  pub first-tables-first-tick : (cells before block : List ℕ) (figure : ℕ) → OneWith (λ r cells'. (r ≡ cond (alike before cells) Verdict.Held Verdict.NotAsked) × (cells' ≡ cond (alike before cells) (cellsTicked (tickOn cells block figure) cells) cells))
-  pub first-frames-first-search : (pdu : List ℕ) → One declared.Verdict (λ r. r ≡ Verdict.Held)
-  pub first-frames-first-read : (bytes : List ℕ) → One declared.Verdict (λ r. r ≡ Verdict.Held)
-  pub first-frames-first-write : (fields : Fields) (room before : List ℕ) → OneWith (λ r room'. (r ≡ cond (alike before room) Verdict.Held Verdict.NotAsked) × (room' ≡ cond (alike before room) (roomAfter fields room) room))
+  pub first-tables-first-start : (cells before : List ℕ) (ports : ℕ) → OneWith (λ r cells'. (r ≡ cond (alike before cells) Held NotAsked) × (cells' ≡ cond (alike before cells) (cellsCold (startOn cells ports) cells) cells))
+  pub first-tables-first-control : (cells before : List ℕ) (port word : ℕ) → OneWith (λ r cells'. (r ≡ cond (alike before cells) Held NotAsked) × (cells' ≡ cond (alike before cells) (cellsTold (controlOn cells port word) cells) cells))
+  pub first-tables-first-status : (cells before : List ℕ) (port : ℕ) → OneWith (λ r cells'. (r ≡ cond (alike before cells) Held NotAsked) × (cells' ≡ cond (alike before cells) (cellsRead (statusOn cells port) cells) cells))
+  pub first-tables-first-request : (cells before : List ℕ) (port value : ℕ) → OneWith (λ r cells'. (r ≡ cond (alike before cells) Held NotAsked) × (cells' ≡ cond (alike before cells) (cellsTold (requestOn cells port value) cells) cells))
+  pub first-tables-first-tick : (cells before block : List ℕ) (figure : ℕ) → OneWith (λ r cells'. (r ≡ cond (alike before cells) Held NotAsked) × (cells' ≡ cond (alike before cells) (cellsTicked (tickOn cells block figure) cells) cells))
+  pub first-frames-first-search : (pdu : List ℕ) → One Verdict (λ r. r ≡ Held)
+  pub first-frames-first-read : (bytes : List ℕ) → One Verdict (λ r. r ≡ Held)
+  pub first-frames-first-write : (fields : Fields) (room before : List ℕ) → OneWith (λ r room'. (r ≡ cond (alike before room) Held NotAsked) × (room' ≡ cond (alike before room) (roomAfter fields room) room))
 
 one : {A : Type 0} (x : A) → One A (λ r. r ≡ x)
 one x r s p q = p ∙ sym q
 
-with : (x : declared.Verdict) (y : List ℕ) → OneWith (λ r a. (r ≡ x) × (a ≡ y))
+with : (x : Verdict) (y : List ℕ) → OneWith (λ r a. (r ≡ x) × (a ≡ y))
 with x y r s b c p q = (p .0 ∙ sym (q .0), p .1 ∙ sym (q .1))
 
 pub unique : Unique

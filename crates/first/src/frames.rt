@@ -17,10 +17,11 @@ use verdict::Verdict;
 ghost use mathlib.Core.Path.{_≡_};
 ghost use mathlib.Core.Bool.{cond};
 ghost use Rattle.tlv.specs.Write.{roomAfter};
+ghost use Rattle.verdict.specs.declared.Verdict.the-variants.{Held, NotAsked};
 ghost use Rattle.first.specs.Alike.{alike};
 
 pub fn first_search(pdu: &[u8]) -> Verdict
-    ensures { λ r. ⌜ r ≡ Verdict.Held ⌝ }
+    ensures { λ r. ⌜ r ≡ Held ⌝ }
 {
     let search_due = search_number(pdu);
     match search(pdu) {
@@ -30,7 +31,7 @@ pub fn first_search(pdu: &[u8]) -> Verdict
 }
 
 pub fn first_read(bytes: &[u8]) -> Verdict
-    ensures { λ r. ⌜ r ≡ Verdict.Held ⌝ }
+    ensures { λ r. ⌜ r ≡ Held ⌝ }
 {
     let read_due = read_number(bytes);
     match read(bytes) {
@@ -40,7 +41,7 @@ pub fn first_read(bytes: &[u8]) -> Verdict
 }
 
 pub fn first_write(fields: Fields, room: &mut [u8], before: &[u8]) -> Verdict
-    ensures { λ r. ⌜ r ≡ cond (alike (now (before .entry)) (now (room .entry))) Verdict.Held Verdict.NotAsked ⌝ }
+    ensures { λ r. ⌜ r ≡ cond (alike (now (before .entry)) (now (room .entry))) Held NotAsked ⌝ }
     ensures { λ _. ⌜ now (room .exit) ≡ cond (alike (now (before .entry)) (now (room .entry))) (roomAfter fields (now (room .entry))) (now (room .entry)) ⌝ }
 {
     if !same_bytes(before, room) {

@@ -3,6 +3,7 @@ use verdict::Verdict;
 ghost use mathlib.Core.Path.{_≡_};
 ghost use mathlib.Core.Bool.{cond, not, _&&_};
 ghost use lib.Dec.{eqb};
+ghost use Rattle.verdict.specs.declared.Verdict.the-variants.{Held, Broken};
 ghost use Rattle.first.specs.Alike.{alike};
 
 // As many cells, and each holds the same.
@@ -39,7 +40,7 @@ pub fn same_bytes(before: &[u8], room: &[u8]) -> bool
 
 // A call that answered: no condition may hold.
 pub fn answered(due: u8) -> Verdict
-    ensures { λ r. ⌜ r ≡ cond (eqb due 0) Verdict.Held Verdict.Broken ⌝ }
+    ensures { λ r. ⌜ r ≡ cond (eqb due 0) Held Broken ⌝ }
 {
     if due == 0 {
         Verdict::Held
@@ -50,7 +51,7 @@ pub fn answered(due: u8) -> Verdict
 
 // A call that refused: the number is the one that is due, and nothing was changed. No refusal is numbered 0.
 pub fn refused(due: u8, number: u8, unchanged: bool) -> Verdict
-    ensures { λ r. ⌜ r ≡ cond ((eqb number due && not (eqb number 0)) && unchanged) Verdict.Held Verdict.Broken ⌝ }
+    ensures { λ r. ⌜ r ≡ cond ((eqb number due && not (eqb number 0)) && unchanged) Held Broken ⌝ }
 {
     if (number == due) & (number != 0) & unchanged {
         Verdict::Held

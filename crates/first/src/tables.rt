@@ -22,10 +22,11 @@ ghost use mathlib.Core.Bool.{cond};
 ghost use Rattle.cells.specs.Lent.{cellsTold, cellsRead, cellsTicked, cellsCold};
 ghost use Rattle.calls.specs.OnCells.{startOn, controlOn, statusOn, requestOn};
 ghost use Rattle.tick.specs.OnCells.{tickOn};
+ghost use Rattle.verdict.specs.declared.Verdict.the-variants.{Held, NotAsked};
 ghost use Rattle.first.specs.Alike.{alike};
 
 pub fn first_start(cells: &mut [u16], before: &[u16], ports: u64) -> Verdict
-    ensures { λ r. ⌜ r ≡ cond (alike (now (before .entry)) (now (cells .entry))) Verdict.Held Verdict.NotAsked ⌝ }
+    ensures { λ r. ⌜ r ≡ cond (alike (now (before .entry)) (now (cells .entry))) Held NotAsked ⌝ }
     ensures { λ _. ⌜ now (cells .exit) ≡ cond (alike (now (before .entry)) (now (cells .entry))) (cellsCold (startOn (now (cells .entry)) ports) (now (cells .entry))) (now (cells .entry)) ⌝ }
 {
     if !same(before, cells) {
@@ -39,7 +40,7 @@ pub fn first_start(cells: &mut [u16], before: &[u16], ports: u64) -> Verdict
 }
 
 pub fn first_control(cells: &mut [u16], before: &[u16], port: u64, word: u64) -> Verdict
-    ensures { λ r. ⌜ r ≡ cond (alike (now (before .entry)) (now (cells .entry))) Verdict.Held Verdict.NotAsked ⌝ }
+    ensures { λ r. ⌜ r ≡ cond (alike (now (before .entry)) (now (cells .entry))) Held NotAsked ⌝ }
     ensures { λ _. ⌜ now (cells .exit) ≡ cond (alike (now (before .entry)) (now (cells .entry))) (cellsTold (controlOn (now (cells .entry)) port word) (now (cells .entry))) (now (cells .entry)) ⌝ }
 {
     if !same(before, cells) {
@@ -53,7 +54,7 @@ pub fn first_control(cells: &mut [u16], before: &[u16], port: u64, word: u64) ->
 }
 
 pub fn first_status(cells: &mut [u16], before: &[u16], port: u64) -> Verdict
-    ensures { λ r. ⌜ r ≡ cond (alike (now (before .entry)) (now (cells .entry))) Verdict.Held Verdict.NotAsked ⌝ }
+    ensures { λ r. ⌜ r ≡ cond (alike (now (before .entry)) (now (cells .entry))) Held NotAsked ⌝ }
     ensures { λ _. ⌜ now (cells .exit) ≡ cond (alike (now (before .entry)) (now (cells .entry))) (cellsRead (statusOn (now (cells .entry)) port) (now (cells .entry))) (now (cells .entry)) ⌝ }
 {
     if !same(before, cells) {
@@ -67,7 +68,7 @@ pub fn first_status(cells: &mut [u16], before: &[u16], port: u64) -> Verdict
 }
 
 pub fn first_request(cells: &mut [u16], before: &[u16], port: u64, value: u64) -> Verdict
-    ensures { λ r. ⌜ r ≡ cond (alike (now (before .entry)) (now (cells .entry))) Verdict.Held Verdict.NotAsked ⌝ }
+    ensures { λ r. ⌜ r ≡ cond (alike (now (before .entry)) (now (cells .entry))) Held NotAsked ⌝ }
     ensures { λ _. ⌜ now (cells .exit) ≡ cond (alike (now (before .entry)) (now (cells .entry))) (cellsTold (requestOn (now (cells .entry)) port value) (now (cells .entry))) (now (cells .entry)) ⌝ }
 {
     if !same(before, cells) {
@@ -81,7 +82,7 @@ pub fn first_request(cells: &mut [u16], before: &[u16], port: u64, value: u64) -
 }
 
 pub fn first_tick(cells: &mut [u16], before: &[u16], block: &[u8], figure: u64) -> Verdict
-    ensures { λ r. ⌜ r ≡ cond (alike (now (before .entry)) (now (cells .entry))) Verdict.Held Verdict.NotAsked ⌝ }
+    ensures { λ r. ⌜ r ≡ cond (alike (now (before .entry)) (now (cells .entry))) Held NotAsked ⌝ }
     ensures { λ _. ⌜ now (cells .exit) ≡ cond (alike (now (before .entry)) (now (cells .entry))) (cellsTicked (tickOn (now (cells .entry)) (now (block .entry)) figure) (now (cells .entry))) (now (cells .entry)) ⌝ }
 {
     if !same(before, cells) {
