@@ -3,13 +3,14 @@
 -- in order: what is its own (13 for cells or bytes that are no table, 3 for numbers that are no fields) stands first, and then document
 -- 01's. It answers the first number whose condition holds, and 0 if none does. What the functions promise is in `Unique`.
 -- Assumes nothing.
-use Prim.Native.Nat.{ℕ}
+use Prim.Native.Nat.{ℕ, _≤_}
 use mathlib.Core.Path.{_≡_, refl}
 use mathlib.Core.Bool.{Bool, true, false, cond, not, _&&_}
 use mathlib.Core.List.{List, [], _∷_}
+use native.Mathlib.Omega.{arith}
 use lib.Dec.{eqb}
 use lib.ListN.{length}
-use Rattle.lists.specs.Ladder.{ladder, ladder-part}
+use Rattle.lists.specs.Ladder.{ladder, Clear, ladder-part}
 use Rattle.table.specs.Form.{done, refuse, tells, refuseStatus, refuseTick}
 use Rattle.table.specs.declared.form.StatusRead.{StatusRead}
 use Rattle.table.specs.declared.form.Ticked.{Ticked}
@@ -38,6 +39,11 @@ use Rattle.ipaqsuni.specs.Tlv.{ofSearch, ofRead, ofWrite, findCall, offs
 -- the first number whose condition holds, and 0 if none does
 abbrev pub firstNumber : List (ℕ × Bool) → ℕ
 firstNumber rs = ladder rs (λ k. k) 0
+
+-- no refusal of the list is numbered 0
+abbrev pub Named : List (ℕ × Bool) → Type 0
+Named [] = Unit {0}
+Named (r ∷ rs) = (1 ≤ r .0) × Named rs
 
 -- include/ipaqsuni.h: "Refused: 13 for another length than IPAQSUNI_CELLS, then 2."
 abbrev pub startList : List ℕ → ℕ → List (ℕ × Bool)
@@ -99,6 +105,15 @@ pub record FirstC : Type 0 where
   pub read-kept : (tlv fields : List ℕ) → Refuses (numberOf (readCall tlv)) → leaves numbersOf (readCall tlv) fields ≡ fields
   pub write-kept : (fields room : List ℕ) (written : ℕ) → Refuses (numberOf (writeCall fields room))
       → (leaves roomWritten (writeCall fields room) room ≡ room) × (leaves sizeWritten (writeCall fields room) written ≡ written)
+
+-- 0 is answered only if no condition holds; the numbers of each list above are its own literals, and none is 0
+pub none-holds : (rs : List (ℕ × Bool)) → Named rs → firstNumber rs ≡ 0 → Clear rs
+none-holds [] named e = tt
+none-holds (r ∷ rs) named e = go (r .1) refl e (none-holds rs (named .1))
+  where
+    go : (b : Bool) → r .1 ≡ b → cond b (r .0) (firstNumber rs) ≡ 0 → (firstNumber rs ≡ 0 → Clear rs) → Clear (r ∷ rs)
+    go true q z rest = absurd (omega (arith, named .0))
+    go false q z rest = (q, rest z)
 
 -- ---- the proofs
 
