@@ -1,0 +1,22 @@
+-- `first_search` is Held: what `search` answered is what the first statement says. Assumes nothing.
+use mathlib.Core.Path.{sym, _∙_}
+use denote.Ref.{now}
+use Rattle.first.specs.HeldFrames.{held-answered, held-refused, search-answered, search-refused}
+use borrow.Author.Needs.{needs}
+use Rattle.first.proofs.frames.first_search.Statement.{statement}
+use Rattle.first.proofs.frames.first_search.Tie as tie
+
+pub first-search-spec : {M : Type 1} → statement M
+first-search-spec =
+    tie.close
+    (tie.spec
+    (λ c κs. search needs)
+    (λ c κs. search needs)
+    (λ c. search needs)
+    (λ c κs. search needs)
+    (λ c. search needs)
+    (λ c κs. search needs)
+    (λ c. held-answered _ _ (c .answered .ensures) (c .before .before .before .before .search-number .ensures ∙ search-answered (now (c .before .before .before .before .before .before .args .pdu)) _ _ (sym (c .before .before .before .search .ensures) ∙ c .before .enum-told .given .1)))
+    (λ c.
+    let r = search-refused (now (c .before .before .before .before .before .before .before .args .pdu)) _ (sym (c .before .before .before .before .search .ensures) ∙ c .before .before .number .given .1) in
+    held-refused _ _ _ (c .refused .ensures) (r .0 ∙ sym (c .before .before .before .before .before .search-number .ensures)) (r .1)))

@@ -1,0 +1,4 @@
+pub mod Alike
+pub mod Held
+pub mod HeldFrames
+pub mod Unique

@@ -1,0 +1,17 @@
+// The first number of a cold start.
+ghost use mathlib.Core.Path.{_≡_};
+ghost use Prim.Native.Nat.{_<_};
+ghost use Rattle.ipaqsuni.specs.Statement1C.{firstNumber, startList};
+
+// "a cold start asked for 0 or over 48 ports"; cells that are no table's number of them come before it.
+pub fn start_number(cells: &[u16], ports: u64) -> u8
+    ensures { λ r. ⌜ r ≡ firstNumber (startList (now (cells .entry)) ports) ⌝ }
+{
+    if cells.len() != 728 {
+        return 13;
+    }
+    if (ports == 0) | (48 < ports) {
+        return 2;
+    }
+    0
+}

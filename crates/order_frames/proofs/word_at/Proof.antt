@@ -1,0 +1,22 @@
+-- `word_at` is `wordAt`, and a number of 16 bits. Assumes nothing.
+use mathlib.Core.Path.{ap₂}
+use Prim.Native.Nat.{ℕ, _+_, _*_}
+use Rattle.header.specs.Header.{wordAt}
+use borrow.Author.Needs.{needs}
+use native.Mathlib.Omega.{arith}
+use Rattle.order_frames.proofs.word_at.Statement.{statement}
+use Rattle.order_frames.proofs.word_at.Tie as tie
+
+pub word-at-spec : {M : Type 1} → statement M
+unfolding wordAt
+word-at-spec =
+    tie.close
+    (tie.spec
+    (λ c. search needs)
+    (λ c κs. search needs)
+    (λ c. search needs)
+    (λ c. search needs)
+    (λ c. search needs)
+    (λ c κs. search needs)
+    (λ c. search needs)
+    (λ c. (ap₂ (λ (x y : ℕ). 256 * x + y) (c .before .before .wide .ensures .0) (c .wide2 .ensures .0), omega (arith, c .before .before .wide .ensures .1, c .wide2 .ensures .1))))
