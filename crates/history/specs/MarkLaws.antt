@@ -65,7 +65,7 @@ module _ (n : ℕ) (a : 1 ≤ n) (b : n ≤ 48) where
   adds-by h p (requested q v) x = refl
   adds-by h p (ticked block figure) x = ap (λ (r : Ticked). cond (accepted (r .answer)) (cond (isIdle (portAt (reached n h) p .state)) x (seen (sampleAt block (14 * p)) x)) x) (sym (tick-reached n a b h block figure))
 
-  quiet : (h : List Call) (p : ℕ) → isIdle (portAt (reached n h) p .state) ≡ true → shown n p h ≡ nothing
+  pub quiet : (h : List Call) (p : ℕ) → isIdle (portAt (reached n h) p .state) ≡ true → shown n p h ≡ nothing
   unfolding shown
   quiet [] p e = refl
   quiet (c ∷ h) p e = simp e
