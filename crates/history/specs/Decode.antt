@@ -9,9 +9,11 @@ use Rattle.reading.specs.Sample.{wordAt}
 use Rattle.statements.specs.History.{Call, control, status, requested, ticked}
 
 -- four words, the highest first
+abbrev pub ofWords : ℕ → ℕ → ℕ → ℕ → ℕ
+ofWords a b c d = (a * 65536 + b) * 4294967296 + (c * 65536 + d)
+
 unfoldable pub numberAt : List ℕ → ℕ → ℕ
-numberAt b at =
-    (wordAt b at * 65536 + wordAt b (at + 2)) * 4294967296 + (wordAt b (at + 4) * 65536 + wordAt b (at + 6))
+numberAt b at = ofWords (wordAt b at) (wordAt b (at + 2)) (wordAt b (at + 4)) (wordAt b (at + 6))
 
 -- the call of a kind, with whatever is handed in
 unfoldable pub callOf : ℕ → ℕ → ℕ → List ℕ → Call

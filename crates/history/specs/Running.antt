@@ -12,7 +12,7 @@ use borrow.Author.Tests.{le-leb, lt-leb}
 use Rattle.lists.specs.Tests.{choice}
 use Rattle.reading.specs.Sample.{wordAt}
 use Rattle.statements.specs.History.{Call, control, status, requested, ticked}
-use Rattle.history.specs.Decode.{numberAt, callOf, blockLong, firstCall, callsFrom, callsOf}
+use Rattle.history.specs.Decode.{ofWords, numberAt, callOf, blockLong, firstCall, callsFrom, callsOf}
 use Rattle.history.specs.Lent.{cellsAfter, ranOn, cellsStarted, cellsReached}
 use Rattle.history.specs.Marks.{notedMark, notedAll, blockOf, marksReached}
 
@@ -28,9 +28,8 @@ number-drop : (at : ℕ) (b : List ℕ) (k : ℕ) → numberAt (drop at b) k ≡
 unfolding numberAt
 number-drop at b k =
     let word : (j : ℕ) → wordAt (drop at b) (k + j) ≡ wordAt b (at + k + j) = λ j. let e : at + (k + j) ≡ at + k + j = omega arith in word-drop at b (k + j) ∙ ap (wordAt b) e in
-    ap₂ (λ (x y : ℕ). x * 4294967296 + y)
-    (ap₂ (λ (x y : ℕ). x * 65536 + y) (word-drop at b k) (word 2))
-    (ap₂ (λ (x y : ℕ). x * 65536 + y) (word 4) (word 6))
+    ap₂ (λ (x y : ℕ). ofWords x y (wordAt (drop at b) (k + 4)) (wordAt (drop at b) (k + 6))) (word-drop at b k) (word 2)
+    ∙ ap₂ (ofWords (wordAt b (at + k)) (wordAt b (at + k + 2))) (word 4) (word 6)
 
 -- ---- one record more, and none
 
