@@ -4,6 +4,7 @@ pub mod Lent
 pub mod LentLaws
 pub mod MarkLaws
 pub mod Marks
+pub mod Plain
 pub mod Readings
 pub mod Running
 pub mod Spelled
