@@ -2,14 +2,14 @@
 -- the calls. A number of more than 64 bits is refused, and a refused call changes nothing and is left out; a tick that runs on a block
 -- of any numbers is one on bytes.
 -- Assumes nothing.
-use Prim.Native.Nat.{ℕ, _*_, _≤_, _<_, _^_}
+use Prim.Native.Nat.{ℕ, _≤_, _<_, _^_}
 use mathlib.Core.Path.{_≡_, refl, sym, _∙_, ap, ap₂, subst}
 use mathlib.Core.Bool.{cond}
 use mathlib.Core.List.{List, [], _∷_}
 use mathlib.Core.Logic.{_⊎_, inl, inr, ⊎-elim}
 use native.Mathlib.Omega.{arith}
 use lib.Dec.{leb, ltb}
-use lib.ListN.{length, getD}
+use lib.ListN.{getD}
 use borrow.Author.Tests.{leb-false, ltb-false}
 use Rattle.lists.specs.Bits.{above}
 use Rattle.lists.specs.Ladder.{ladder-holds}
@@ -33,7 +33,7 @@ use Rattle.history.specs.Lent.{cellsReached}
 use Rattle.history.specs.LentLaws.{cells-reached}
 use Rattle.history.specs.MarkLaws.{markOf, quiet, marks-reached}
 use Rattle.history.specs.Marks.{marksReached}
-use Rattle.history.specs.Plain.{Plain, plain-tick}
+use Rattle.history.specs.Plain.{plain-tick}
 use Rattle.history.specs.Spelled.{Bytes, Fits, OfBytes, All, spelled, turned, spelled-back, spelled-bytes, turned-all}
 
 -- ---- a call is left out, or some record does what it does

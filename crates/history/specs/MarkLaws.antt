@@ -1,12 +1,12 @@
 -- The marks that a history leaves say what each port has shown.
 -- Assumes nothing.
 use Prim.Native.Nat.{ℕ, _+_, _*_, _≤_, _<_}
-use mathlib.Core.Path.{_≡_, refl, sym, _∙_, ap, ap₂, subst}
-use mathlib.Core.Bool.{Bool, true, false, cond, _&&_}
+use mathlib.Core.Path.{_≡_, refl, sym, _∙_, ap}
+use mathlib.Core.Bool.{Bool, true, false, cond}
 use mathlib.Core.List.{List, [], _∷_}
 use native.Mathlib.Omega.{arith}
 use lib.Dec.{eqb}
-use lib.ListN.{getD, replicate, getD-replicate}
+use lib.ListN.{getD, getD-replicate}
 use Rattle.lists.specs.Places.{getD-tabulate}
 use Rattle.lists.specs.Tests.{choice-on}
 use Rattle.reading.specs.Sample.{sampleAt}

@@ -3,11 +3,11 @@
 -- Assumes nothing.
 use Prim.Native.Nat.{ℕ, zero, suc, _+_, _*_, _/_, _%_, _≤_, _<_}
 use mathlib.Core.Path.{_≡_, refl, sym, _∙_, ap, ap₂}
-use mathlib.Core.Bool.{Bool, true, false, cond, not, _&&_, false≢true}
+use mathlib.Core.Bool.{true, false, cond, not, _&&_, false≢true}
 use mathlib.Core.List.{List, [], _∷_}
 use mathlib.Core.Logic.{⊎-elim}
 use native.Mathlib.Omega.{arith}
-use lib.Dec.{eqb, leb, ltb}
+use lib.Dec.{eqb, ltb}
 use lib.ListN.{length, getD, List·getD-eq-default}
 use borrow.Author.Tests.{eqb-true, leb-true, leb-false, ltb-false, not-true, not-false}
 use Rattle.lists.specs.Bits.{above}
@@ -38,7 +38,7 @@ use Rattle.table.specs.declared.form.Table.{Table}
 use Rattle.table.specs.declared.form.Ticked.{Ticked}
 use Rattle.tick.specs.Digest.{detectionOf, classingOf, digest}
 use Rattle.tick.specs.Tick.{movedAt, flagsReserved, tickRefusals, tick}
-use Rattle.statements.specs.History.{Call, ticked, accepted, isValid, isClass, showsSignature, givesClass, Shown, nothing, signature, both, seen, adds}
+use Rattle.statements.specs.History.{ticked, accepted, isValid, isClass, showsSignature, givesClass, Shown, nothing, signature, both, seen, adds}
 use Rattle.history.specs.Spelled.{Bytes}
 
 -- ---- numbers that show a signature, and a class

@@ -6,7 +6,7 @@ use mathlib.Core.Bool.{Bool, true, false, cond, not, _&&_, _||_}
 use mathlib.Core.Logic.{⊎-elim}
 use native.Mathlib.Omega.{arith}
 use lib.Dec.{ltb, leb}
-use lib.IntN.{ℤ, pos, negsuc, subℕ, _-ℤ_}
+use lib.IntN.{ℤ, pos, subℕ, _-ℤ_}
 use lib.Signed.{ltZ, leZ}
 use borrow.Author.Tests.{ltb-true, ltb-false, leb-true, leb-false, lt-ltb, le-ltb, le-leb, lt-leb}
 use Rattle.lists.specs.Places.{side}

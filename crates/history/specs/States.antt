@@ -16,7 +16,7 @@ use Rattle.port.specs.declared.form.State.{State}
 use Rattle.port.specs.declared.form.State.the-variants.{TestError}
 use Rattle.table.specs.Form.{portAt}
 use Rattle.table.specs.declared.form.Table.{Table}
-use Rattle.cells.specs.Cells.{portOf, tableOf}
+use Rattle.cells.specs.Cells.{portOf}
 use Rattle.cells.specs.Codes.{stateOf}
 use Rattle.cells.specs.Laws.{table-at}
 use Rattle.ipaqsuni.specs.Laws.{Are}

@@ -5,15 +5,14 @@ use mathlib.Core.Path.{_≡_, refl, sym, _∙_, ap, ap₂, subst}
 use mathlib.Core.Bool.{Bool, true, false, cond, not, _&&_, _||_}
 use mathlib.Core.List.{List, [], _∷_}
 use native.Mathlib.Omega.{arith}
-use lib.Dec.{leb, ltb, eqb}
+use lib.Dec.{ltb, eqb}
 use lib.ListN.{length, getD}
 use borrow.Author.Tests.{ltb-true, lt-ltb, le-ltb, le-leb, lt-leb, eq-eqb, eqb-true, not-true}
 use Rattle.lists.specs.Bits.{above}
-use Rattle.lists.specs.Every.{every, every-at, every-of, someBelow, nowhere}
-use Rattle.lists.specs.Tests.{and-left, and-right, not-both}
+use Rattle.lists.specs.Every.{every-at, every-of, someBelow, nowhere}
+use Rattle.lists.specs.Tests.{and-left, and-right}
 use Rattle.lists.specs.Total.{total, total-cong, total-less}
 use Rattle.reading.specs.Sample.{wordAt, sampleAt, reservedFlags}
-use Rattle.port.specs.States.{closed, isIdle, inTest}
 use Rattle.table.specs.Drawn.{closedAt, draws, closedSum}
 use Rattle.table.specs.Form.{portAt}
 use Rattle.table.specs.Laws.{well-count}
@@ -23,13 +22,12 @@ use Rattle.table.specs.declared.form.Table.{Table}
 use Rattle.table.specs.declared.form.Ticked.{Ticked}
 use Rattle.boards.specs.MaskLaws.{closed-bits}
 use Rattle.boards.specs.Masks.{answered}
-use Rattle.calls.specs.Calls.{coldTable}
 use Rattle.tick.specs.OnCells.{tickOn}
 use Rattle.tick.specs.Tick.{flagsReserved, tick}
 use Rattle.ipaqsuni.specs.Laws.{Are}
-use Rattle.statements.specs.History.{Call, ticked, after, reached, accepted, Shown, both, shown}
+use Rattle.statements.specs.History.{Call, ticked, after, reached, accepted, both, shown}
 use Rattle.statements.specs.Reached.{reached-well, call-count, cold-table, cold-count}
-use Rattle.statements.specs.Statement2.{Ticks, statement-2}
+use Rattle.statements.specs.Statement2.{statement-2}
 use Rattle.statements.specs.Statement3.{Third, statement-3, closed-has-shown}
 use Rattle.history.specs.Lent.{cellsAfter, ranOn, cellsReached}
 use Rattle.history.specs.LentLaws.{cells-reached, tick-reached}

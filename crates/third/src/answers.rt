@@ -5,7 +5,7 @@ use history::accepted;
 use table::form::Closed;
 ghost use mathlib.Core.Path.{_≡_};
 ghost use mathlib.Core.Bool.{cond};
-ghost use Prim.Native.Nat.{_*_, _≤_, _<_};
+ghost use Prim.Native.Nat.{_<_};
 ghost use lib.ListN.{length};
 ghost use Rattle.lists.specs.Bits.{bit};
 ghost use Rattle.third.specs.Answers.{closedIn, noneLostIn, demandsIn, allShownIn, soundIn};

@@ -2,7 +2,6 @@
 use mathlib.Core.Path.{_∙_, ap}
 use borrow.Author.Needs.{needs}
 use borrow.Author.Tests.{eq-eqb, ne-eqb}
-use Rattle.table.specs.declared.form.Closed.{Closed}
 use Rattle.statements.specs.History.{accepted}
 use Rattle.history.specs.Decode.{callOf}
 use Rattle.history.specs.Lent.{cellsAfter, ranOn}

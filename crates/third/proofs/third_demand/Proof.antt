@@ -5,7 +5,6 @@ use borrow.Author.Needs.{needs}
 use borrow.Author.Tests.{not-true, not-false}
 use denote.Ref.{now}
 use Rattle.lists.specs.Tests.{not-both}
-use Rattle.history.specs.Decode.{callsOf}
 use Rattle.third.specs.Answers.{noneLostIn}
 use Rattle.third.specs.Asks.{asks, Asked, asked-so}
 use Rattle.third.specs.Third.{small, great, loses-none, answer-in, sound-in}

@@ -1,10 +1,9 @@
 -- `note` makes every mark anew: those below p are made. Assumes nothing.
 use mathlib.Core.Path.{_≡_, _∙_, ap}
-use Prim.Native.Nat.{ℕ, _+_, _-_, _≤_}
+use Prim.Native.Nat.{_+_, _-_, _≤_}
 use native.Mathlib.Nat.{le-antisymm, le-refl}
 use native.Mathlib.Omega.{arith}
 use lib.ListN.{getD}
-use borrow.Author.Needs.{needs}
 use denote.Ref.{now}
 use Rattle.lists.specs.Places.{Filled, filled-none, filled-more, filled-all}
 use Rattle.history.specs.Marks.{notedMark, notedAll}
