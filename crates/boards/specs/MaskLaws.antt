@@ -75,6 +75,12 @@ either : (c a b : Bool) → (c ≡ true → (a || b) ≡ true) → ((c && a) || 
 either true a b h = h refl
 either false a b h = refl
 
+-- a bit of the one mask or the other is set exactly where a place is closed
+pub closed-bits : (t : Table) → wellMade t ≡ true → (p : ℕ) → p < places → (bit p (maskA t) || bit p (maskB t)) ≡ closedAt t p
+closed-bits t e p l =
+    ap₂ _||_ (bits-a t p l) (bits-b t p l)
+    ∙ either (closedAt t p) (namesA (pairOf (portAt t p .control))) (namesB (pairOf (portAt t p .control))) (closed-names t (table-of t e) p)
+
 -- "a number of closed ports equal to the ones in the two masks": it is the number of ports in closed states
 pub closed-number : (t : Table) → wellMade t ≡ true → ones (maskA t) + ones (maskB t) ≡ count places (closedAt t)
 unfolding maskA maskB count

@@ -170,13 +170,13 @@ few-ports : (t : Table) → illMade t ≡ false → t .count ≤ 48
 unfolding wellMade
 few-ports t e = well-count t (ap not e)
 
-cold-are : (n : ℕ) → n ≤ 48 → Are (coldTable n) (cellsCold (done (coldTable n)) [])
+pub cold-are : (n : ℕ) → n ≤ 48 → Are (coldTable n) (cellsCold (done (coldTable n)) [])
 unfolding coldTable done cellsCold
 cold-are n few = (cells-are (coldTable n) few, cells-table (coldTable n) (length-replicate 48 coldPort))
 
 module _ (l : List ℕ) (was : isTable l ≡ true) (well : illMade (tableOf l) ≡ false) where
   -- another port below the count
-  with-port-are : (p : ℕ) (x : Port) → leb (tableOf l .count) p ≡ false → Are (withPort p x (tableOf l)) (cellsWith (withPort p x (tableOf l)) l)
+  pub with-port-are : (p : ℕ) (x : Port) → leb (tableOf l .count) p ≡ false → Are (withPort p x (tableOf l)) (cellsWith (withPort p x (tableOf l)) l)
   unfolding withPort tableOf
   with-port-are p x below =
       let t = withPort p x (tableOf l) in
@@ -186,7 +186,7 @@ module _ (l : List ℕ) (was : isTable l ≡ true) (well : illMade (tableOf l) �
       (with-are t l was ports refl (few-ports (tableOf l) well) past, with-table t l was ports refl (few-ports (tableOf l) well) past)
 
   -- every port below the count moved and settled
-  after-are : (block : List ℕ) (supply : Power) → Are (tableAfter (tableOf l) (movedAt (tableOf l) block) supply) (cellsWith (tableAfter (tableOf l) (movedAt (tableOf l) block) supply) l)
+  pub after-are : (block : List ℕ) (supply : Power) → Are (tableAfter (tableOf l) (movedAt (tableOf l) block) supply) (cellsWith (tableAfter (tableOf l) (movedAt (tableOf l) block) supply) l)
   unfolding tableAfter tableOf
   after-are block supply =
       let moved = movedAt (tableOf l) block in

@@ -115,7 +115,7 @@ call-well t (ticked block figure) e =
     (λ (x : Ran t block figure (tick t block figure)). rw (x .table) (tick-well t block (tenths figure) e (in-range figure (x .figure-in-range))))
     (tick-told t block figure)
 
-cold-table : (n : ℕ) → 1 ≤ n → n ≤ 48 → coldStart n .table ≡ coldTable n
+pub cold-table : (n : ℕ) → 1 ≤ n → n ≤ 48 → coldStart n .table ≡ coldTable n
 unfolding coldStart done
 cold-table n a b = simp (ne-eqb n 0 (λ e. omega arith), le-ltb 48 n b)
 
@@ -154,7 +154,7 @@ module _ (t : Table) (m : wellMade t ≡ true) (p : ℕ) (x : Shown) where
       (λ (e : Ran t block figure (tick t block figure)). rw (e .answer) (ran-needs block figure e l n))
       (tick-told t block figure)
 
-call-count : (t : Table) (c : Call) → after t c .count ≡ t .count
+pub call-count : (t : Table) (c : Call) → after t c .count ≡ t .count
 unfolding after
 call-count t (control p w) = control-keeps t p w .count
 call-count t (status p) = status-keeps t p .count
@@ -169,7 +169,7 @@ cold-needs : (n : ℕ) → n ≤ 48 → (p : ℕ) → p < n → Needs (portAt (c
 unfolding coldTable portAt
 cold-needs n b p l = subst (λ (x : Port). Needs (x .state) nothing) (sym (getD-replicate 48 p coldPort noPort (omega arith))) tt
 
-cold-count : (n : ℕ) → coldTable n .count ≡ n
+pub cold-count : (n : ℕ) → coldTable n .count ≡ n
 unfolding coldTable
 cold-count n = refl
 
