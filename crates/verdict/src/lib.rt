@@ -1,6 +1,9 @@
-// What a demand's program answers: the demand held, nothing was asked, or the core broke it.
+// What the program of a demand answers.
 pub enum Verdict {
+    // It was asked, and it holds.
     Held,
+    // The arguments do not ask it.
     NotAsked,
+    // It was asked, and it does not hold.
     Broken,
 }
