@@ -39,6 +39,7 @@ fn drawn(state: u16, demand: u16) -> u64
     }
 }
 
+// A choice without a branch in the loop.
 fn pick(first: bool, a: u16, b: u16) -> u16
     ensures { λ r. ⌜ r ≡ cond first a b ⌝ }
 {

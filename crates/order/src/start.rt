@@ -1,9 +1,8 @@
 // The first number of a cold start.
 ghost use mathlib.Core.Path.{_≡_};
-ghost use Prim.Native.Nat.{_<_};
 ghost use Rattle.ipaqsuni.specs.Statement1C.{firstNumber, startList};
 
-// "a cold start asked for 0 or over 48 ports"; cells that are no table's number of them come before it.
+// "a cold start asked for 0 or over 48 ports"; another number of cells than a table has is refused before that.
 pub fn start_number(cells: &[u16], ports: u64) -> u8
     ensures { λ r. ⌜ r ≡ firstNumber (startList (now (cells .entry)) ports) ⌝ }
 {

@@ -4,7 +4,6 @@
 use fields::Fields;
 use fields::Form;
 ghost use mathlib.Core.Path.{_≡_};
-ghost use mathlib.Core.Bool.{true};
 ghost use Prim.Native.Nat.{_+_, _<_, _≤_, _^_};
 ghost use lib.ListN.{length};
 ghost use Rattle.lists.specs.Bits.{one};
@@ -22,7 +21,7 @@ fn wide(byte: u8) -> usize
     byte as usize
 }
 
-// Two bytes as a number, the high one first.
+// Two bytes as a number, the high one first. Of a header its upper seven bits are the type, its lower nine the length.
 fn word_at(bytes: &[u8], at: usize) -> usize
     requires { ⌜ at + 1 < length (now bytes) ⌝ }
     ensures { λ r. ⌜ (r ≡ wordAt (now (bytes .entry)) at) × (r < 2 ^ 16) ⌝ }
@@ -50,7 +49,7 @@ fn power_at(bytes: &[u8], at: usize) -> usize
     }
 }
 
-// "8, more than one power TLV in the PDU", "7, no power TLV in the PDU".
+// Refusal 8, "more than one power TLV in the PDU", and 7, "no power TLV in the PDU".
 fn counted(powers: usize) -> u8
     ensures { λ r. ⌜ r ≡ countedNumber powers ⌝ }
 {

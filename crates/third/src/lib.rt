@@ -13,12 +13,13 @@ use history::tick_from;
 use verdict::Verdict;
 ghost use mathlib.Core.Path.{_≡_};
 ghost use mathlib.Core.Bool.{cond};
+ghost use Rattle.verdict.specs.declared.Verdict.the-variants.{Held, NotAsked};
 ghost use Rattle.third.specs.Asks.{asks};
 
 // The history is any bytes. The core's own functions run it from a cold start; then the tick is made twice from the table that was
 // reached, once on each figure.
 pub fn third_demand(history: &[u8], ports: u64, block: &[u8], less: u64, more: u64) -> Verdict
-    ensures { λ r. ⌜ r ≡ cond (asks ports (now (block .entry)) less more) Verdict.Held Verdict.NotAsked ⌝ }
+    ensures { λ r. ⌜ r ≡ cond (asks ports (now (block .entry)) less more) Held NotAsked ⌝ }
 {
     if !asked(ports, block, less, more) {
         return Verdict::NotAsked;

@@ -1,0 +1,46 @@
+-- One possible answer: for each public function of the third demand's crates (`history`, `third`) two results that obey its promise are
+-- equal. The promise stands here in the words of the source up to names, as in `Unique` of the crate `statements`; `tools/public` compares.
+-- Assumes nothing.
+use Prim.Native.Nat.{ℕ}
+use mathlib.Core.Path.{_≡_, sym, _∙_, ap}
+use mathlib.Core.Bool.{Bool, cond}
+use mathlib.Core.List.{List}
+use Rattle.table.specs.declared.form.Closed.{Closed}
+use Rattle.tick.specs.OnCells.{tickOn}
+use Rattle.verdict.specs.declared.Verdict.{Verdict}
+use Rattle.verdict.specs.declared.Verdict.the-variants.{Held, NotAsked}
+use Rattle.statements.specs.History.{ticked, accepted}
+use Rattle.history.specs.Decode.{callsOf}
+use Rattle.history.specs.Lent.{cellsAfter, ranOn, cellsReached}
+use Rattle.history.specs.Marks.{notedAll, marksReached}
+use Rattle.history.specs.declared.Reached.{Reached}
+use Rattle.history.specs.declared.Tried.{Tried}
+use Rattle.third.specs.Asks.{asks}
+
+-- two results that obey the promise are equal
+abbrev pub One : (A : Type 0) → (A → Type 0) → Type 0
+One A promise = (r s : A) → promise r → promise s → r ≡ s
+
+pub record Unique : Type 0 where
+  pub history-accepted : (answer : Closed) → One Bool (λ r. r ≡ accepted answer)
+  pub history-run : (history : List ℕ) (ports : ℕ) → One Reached (λ r. (r .cells ≡ cellsReached ports (callsOf history)) × (r .shown ≡ marksReached ports (callsOf history)))
+  pub history-tick-from : (from : Reached) (block : List ℕ) (figure : ℕ) → One Tried (λ r. (r .cells ≡ cellsAfter (from .cells) (ticked block figure)) × (r .shown ≡ notedAll (r .cells) (ranOn (from .cells) (ticked block figure)) block (from .shown)) × (r .answer ≡ tickOn (from .cells) block figure .answer))
+  pub third-third-demand : (history : List ℕ) (ports : ℕ) (block : List ℕ) (less more : ℕ) → One Verdict (λ r. r ≡ cond (asks ports block less more) Held NotAsked)
+
+one : (A : Type 0) (x r s : A) → r ≡ x → s ≡ x → r ≡ s
+one A x r s p q = p ∙ sym q
+
+pub unique : Unique
+unique =
+    record {
+      history-accepted = λ answer. one Bool (accepted answer);
+      history-run = λ history ports r s p q. let c = p .0 ∙ sym (q .0) in let m = p .1 ∙ sym (q .1) in λ k. record { cells = c k; shown = m k };
+      history-tick-from =
+          λ from block figure r s p q.
+          let c = p .0 ∙ sym (q .0) in
+          let n : (x : List ℕ) → List ℕ = λ x. notedAll x (ranOn (from .cells) (ticked block figure)) block (from .shown) in
+          let m : r .shown ≡ s .shown = p .1 ∙ ap n c ∙ sym (q .1) in
+          let a = p .2 ∙ sym (q .2) in
+          λ k. record { cells = c k; shown = m k; answer = a k };
+      third-third-demand = λ history ports block less more. one Verdict (cond (asks ports block less more) Held NotAsked);
+    }
