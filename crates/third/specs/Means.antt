@@ -1,5 +1,6 @@
--- What the tests mean, of any core: whatever table, answer and account a tick leaves, if only the answer names the closed ports and the marks are those of the
--- account, a tick that passes them is one of which the demand holds. So a weaker test is refused here, also where code and definition agree on it.
+-- What the tests mean, of any core. Take any table, answer and account of what was shown: if the answer names the closed ports and the marks
+-- are those of the account, then of a tick that passes the tests the demand holds. So a weaker test is refused here, also where code and
+-- definition agree on it.
 -- Assumes nothing.
 use Prim.Native.Nat.{ℕ, _+_, _≤_, _<_}
 use mathlib.Core.Path.{_≡_, refl, sym, _∙_, ap₂}
