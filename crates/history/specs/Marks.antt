@@ -1,5 +1,5 @@
--- What each port has shown since it last stood in IDLE, as the program marks it: 0 it stands in IDLE, 1 nothing, 2 a valid signature, 3 that and
--- later a class.
+-- What each port has shown since it last stood in IDLE, as the program marks it: 0 it stands in IDLE, 1 nothing, 2 a valid signature, 3 that
+-- and later a class.
 use Prim.Native.Nat.{ℕ, _+_, _*_, _<_}
 use mathlib.Core.Bool.{Bool, cond, _&&_}
 use mathlib.Core.List.{List, [], _∷_}

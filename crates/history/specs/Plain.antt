@@ -1,5 +1,5 @@
--- A tick that runs, on a block of any numbers: some bytes do the same. Each port's sample is replaced by one that shows the same signature, class
--- and flags.
+-- A tick that runs on a block of any numbers: on some bytes it does the same. Each port's sample is replaced by one that shows the same
+-- signature, class and flags.
 -- Assumes nothing.
 use Prim.Native.Nat.{ℕ, zero, suc, _+_, _*_, _/_, _%_, _≤_, _<_}
 use mathlib.Core.Path.{_≡_, refl, sym, _∙_, ap, ap₂}

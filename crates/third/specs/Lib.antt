@@ -1,4 +1,5 @@
 pub mod Answers
 pub mod Asks
+pub mod Means
 pub mod Third
 pub mod Unique

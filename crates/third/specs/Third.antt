@@ -2,19 +2,17 @@
 -- Assumes nothing.
 use Prim.Native.Nat.{ℕ, _+_, _*_, _≤_, _<_}
 use mathlib.Core.Path.{_≡_, refl, sym, _∙_, ap, ap₂, subst}
-use mathlib.Core.Bool.{Bool, true, false, cond, not, _&&_, _||_}
+use mathlib.Core.Bool.{Bool, true, false, not, _&&_, _||_}
 use mathlib.Core.List.{List, [], _∷_}
 use native.Mathlib.Omega.{arith}
 use lib.Dec.{ltb, eqb}
 use lib.ListN.{length, getD}
-use borrow.Author.Tests.{ltb-true, lt-ltb, le-ltb, le-leb, lt-leb, eq-eqb, eqb-true, not-true}
+use borrow.Author.Tests.{ltb-true, le-ltb, le-leb, lt-leb, eq-eqb, eqb-true, not-true}
 use Rattle.lists.specs.Bits.{above}
 use Rattle.lists.specs.Every.{every-at, every-of, someBelow, nowhere}
 use Rattle.lists.specs.Tests.{and-left, and-right}
-use Rattle.lists.specs.Total.{total, total-cong, total-less}
 use Rattle.sample.specs.Sample.{wordAt, sampleAt, reservedFlags}
-use Rattle.table.specs.Drawn.{closedAt, draws, closedSum}
-use Rattle.table.specs.Form.{portAt}
+use Rattle.table.specs.Drawn.{closedAt}
 use Rattle.table.specs.Laws.{well-count}
 use Rattle.table.specs.WellMade.{illMade, wellMade}
 use Rattle.table.specs.declared.form.Closed.{Closed}
@@ -33,9 +31,10 @@ use Rattle.history.specs.Lent.{cellsAfter, ranOn, cellsReached}
 use Rattle.history.specs.LentLaws.{cells-reached, tick-reached}
 use Rattle.history.specs.MarkLaws.{both-mark}
 use Rattle.history.specs.Marks.{notedAll, marksReached}
-use Rattle.history.specs.States.{test-cell, demand-cell}
+use Rattle.history.specs.States.{test-cell}
 use Rattle.third.specs.Answers.{closedIn, noneLostIn, demandsIn, allShownIn, soundIn}
 use Rattle.third.specs.Asks.{flagsClear, Asked}
+use Rattle.third.specs.Means.{sum-says}
 
 -- ---- a tick that the arguments ask for is accepted
 
@@ -75,14 +74,6 @@ accepts n h block figure f =
     subst (λ (m : ℕ). someBelow m (λ p. reservedFlags (sampleAt block (14 * p) .flags)) ≡ false) (sym k) (no-flags n block (f .clear)) in
     simp (well, long, le-ltb 60000 figure (f .range), flags)
 
--- ---- the program's sum is that of document 01
-
-sum-is : (t : Table) → t .count ≤ 48 → total 48 (λ p. cond (closedAt t p) (portAt t p .demand .0) 0) ≡ closedSum t
-unfolding closedSum closedAt draws
-sum-is t few =
-    total-less (t .count) 48 (λ p. cond (closedAt t p) (portAt t p .demand .0) 0) few (λ p l. simp (le-ltb p (t .count) l))
-    ∙ total-cong (t .count) (λ p. cond (closedAt t p) (portAt t p .demand .0) 0) (λ p. draws (portAt t p)) (λ p l. simp (lt-ltb p (t .count) l))
-
 -- ---- one tick of what a history reaches
 
 module _ (n : ℕ) (h : List Call) (block : List ℕ) (figure : ℕ) (f : Fit n block figure) where
@@ -112,11 +103,8 @@ module _ (n : ℕ) (h : List Call) (block : List ℕ) (figure : ℕ) (f : Fit n 
   third = statement-3 n (f .one) (f .most) h block figure figure (omega arith) runs runs
 
   fits : demandsIn (cellsReached n g) x ≤ figure
-  unfolding demandsIn reached after
-  fits =
-      let e : demandsIn (cellsReached n g) x ≡ total 48 (λ p. cond (closedAt (reached n g) p) (portAt (reached n g) p .demand .0) 0) =
-      total-cong 48 _ _ (λ p l. ap₂ (λ (b : Bool) (d : ℕ). cond b d 0) (closed-is p l) (sym (demand-cell (reached n g) (cellsReached n g) are p l))) in
-      omega (arith, e, sum-is (reached n g) (well-count (reached n g) (reached-well n (f .one) (f .most) g)), third .fits-less)
+  unfolding reached after
+  fits = omega (arith, sum-says (reached n g) (cellsReached n g) x are (well-count (reached n g) (reached-well n (f .one) (f .most) g)) closed-is, third .fits-less)
 
   shows : allShownIn (cellsReached n g) (marksReached n g) x ≡ true
   unfolding allShownIn
