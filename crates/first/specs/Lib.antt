@@ -1,4 +1,3 @@
-pub mod Alike
 pub mod Held
 pub mod HeldFrames
 pub mod Unique

@@ -1,13 +1,14 @@
--- One possible answer: for each public function of the first demand's crates (`ill`, `order`, `order_frames`, `first`) two results that obey its
+-- One possible answer: for each public function of the first demand's crates (`judge`, `ill`, `order`, `order_frames`, `first`) two results that obey its
 -- promise are equal, with what they leave in what was lent. The promise stands here in the words of the source up to names, as in `Unique` of
 -- the crate `statements`; `tools/public` compares.
 -- Assumes nothing.
 use Prim.Native.Nat.{ℕ}
 use mathlib.Core.Path.{_≡_, sym, _∙_}
-use mathlib.Core.Bool.{Bool, cond}
+use mathlib.Core.Bool.{Bool, cond, not, _&&_}
 use mathlib.Core.List.{List}
+use lib.Dec.{eqb}
 use Rattle.verdict.specs.declared.Verdict.{Verdict}
-use Rattle.verdict.specs.declared.Verdict.the-variants.{Held, NotAsked}
+use Rattle.verdict.specs.declared.Verdict.the-variants.{Held, NotAsked, Broken}
 use Rattle.control.specs.Control.{refused}
 use Rattle.cells.specs.Lent.{cellsTold, cellsRead, cellsTicked, cellsCold}
 use Rattle.calls.specs.OnCells.{startOn, controlOn, statusOn, requestOn}
@@ -18,7 +19,7 @@ use Rattle.writer.specs.Write.{writeRefusals, roomAfter}
 use Rattle.fields.specs.declared.Fields.{Fields}
 use Rattle.ill.specs.Ill.{illCells}
 use Rattle.ipaqsuni.specs.Statement1C.{firstNumber, startList, controlList, statusList, requestList, tickList}
-use Rattle.first.specs.Alike.{alike}
+use Rattle.judge.specs.Alike.{alike}
 
 -- two results that obey the promise are equal
 abbrev pub One : (A : Type 0) → (A → Type 0) → Type 0
@@ -29,6 +30,10 @@ abbrev pub OneWith : (Verdict → List ℕ → Type 0) → Type 0
 OneWith promise = (r s : Verdict) (b c : List ℕ) → promise r b → promise s c → (r ≡ s) × (b ≡ c)
 
 pub record Unique : Type 0 where
+  pub judge-same : (before cells : List ℕ) → One Bool (λ r. r ≡ alike before cells)
+  pub judge-same-bytes : (before room : List ℕ) → One Bool (λ r. r ≡ alike before room)
+  pub judge-answered : (due : ℕ) → One Verdict (λ r. r ≡ cond (eqb due 0) Held Broken)
+  pub judge-refused : (due number : ℕ) (unchanged : Bool) → One Verdict (λ r. r ≡ cond ((eqb number due && not (eqb number 0)) && unchanged) Held Broken)
   pub ill-bad-word : (word : ℕ) → One Bool (λ r. r ≡ refused word)
   pub ill-ill-made : (cells : List ℕ) → One Bool (λ r. r ≡ illCells cells)
   pub order-start-start-number : (cells : List ℕ) (ports : ℕ) → One ℕ (λ r. r ≡ firstNumber (startList cells ports))
@@ -57,6 +62,10 @@ with x y r s b c p q = (p .0 ∙ sym (q .0), p .1 ∙ sym (q .1))
 pub unique : Unique
 unique =
     record {
+      judge-same = λ before cells. one _;
+      judge-same-bytes = λ before room. one _;
+      judge-answered = λ due. one _;
+      judge-refused = λ due number unchanged. one _;
       ill-bad-word = λ word. one _;
       ill-ill-made = λ cells. one _;
       order-start-start-number = λ cells ports. one _;

@@ -1,9 +1,9 @@
 // The calls on frames. The search and the reader have nothing lent that they could write, and are asked with whatever bytes there are. The
 // writer is handed its room twice: what is lent to the core, and `before`, which holds the same and which the core never sees.
-use crate::judge::answered;
-use crate::judge::refused;
-use crate::judge::same_bytes;
 use fields::Fields;
+use judge::answered;
+use judge::refused;
+use judge::same_bytes;
 use order_frames::read_number;
 use order_frames::search_number;
 use order_frames::write_number;
@@ -18,7 +18,7 @@ ghost use mathlib.Core.Path.{_≡_};
 ghost use mathlib.Core.Bool.{cond};
 ghost use Rattle.writer.specs.Write.{roomAfter};
 ghost use Rattle.verdict.specs.declared.Verdict.the-variants.{Held, NotAsked};
-ghost use Rattle.first.specs.Alike.{alike};
+ghost use Rattle.judge.specs.Alike.{alike};
 
 pub fn first_search(pdu: &[u8]) -> Verdict
     ensures { λ r. ⌜ r ≡ Held ⌝ }

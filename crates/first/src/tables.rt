@@ -1,12 +1,12 @@
 // The calls on a table. Each program is handed the cells twice: those that are lent to the core, and `before`, which holds the same and which
 // the core never sees. It is asked wherever the two are the same, whatever they hold and however many they are.
-use crate::judge::answered;
-use crate::judge::refused;
-use crate::judge::same;
 use calls::cold_start;
 use calls::read_status;
 use calls::request;
 use calls::write_control;
+use judge::answered;
+use judge::refused;
+use judge::same;
 use order::control_write::control_number;
 use order::request::request_number;
 use order::start::start_number;
@@ -23,7 +23,7 @@ ghost use Rattle.cells.specs.Lent.{cellsTold, cellsRead, cellsTicked, cellsCold
 ghost use Rattle.calls.specs.OnCells.{startOn, controlOn, statusOn, requestOn};
 ghost use Rattle.tick.specs.OnCells.{tickOn};
 ghost use Rattle.verdict.specs.declared.Verdict.the-variants.{Held, NotAsked};
-ghost use Rattle.first.specs.Alike.{alike};
+ghost use Rattle.judge.specs.Alike.{alike};
 
 pub fn first_start(cells: &mut [u16], before: &[u16], ports: u64) -> Verdict
     ensures { λ r. ⌜ r ≡ cond (alike (now (before .entry)) (now (cells .entry))) Held NotAsked ⌝ }

@@ -1,7 +1,7 @@
 -- `answered` is Held exactly where no condition holds. Assumes nothing.
 use borrow.Author.Tests.{eq-eqb, ne-eqb}
-use Rattle.first.proofs.judge.answered.Statement.{statement}
-use Rattle.first.proofs.judge.answered.Tie as tie
+use Rattle.judge.proofs.answered.Statement.{statement}
+use Rattle.judge.proofs.answered.Tie as tie
 
 pub answered-spec : {M : Type 1} → statement M
 answered-spec =

@@ -8,10 +8,10 @@ use denote.Ref.{now}
 use lib.Dec.{eqb}
 use lib.ListN.{length, getD}
 use Rattle.lists.specs.Every.{every, every-next}
-use Rattle.first.specs.Alike.{alike}
+use Rattle.judge.specs.Alike.{alike}
 use native.Mathlib.Omega.{arith}
-use Rattle.first.proofs.judge.same_bytes.Statement.{statement}
-use Rattle.first.proofs.judge.same_bytes.Tie as tie
+use Rattle.judge.proofs.same_bytes.Statement.{statement}
+use Rattle.judge.proofs.same_bytes.Tie as tie
 
 abbrev Inv-loop : tie.InvT-loop
 Inv-loop before room all₀ at₀ all at = (at ≤ length before) × (all ≡ every at (λ j. eqb (getD before j 0) (getD room j 0)))

@@ -1,6 +1,6 @@
 -- `refused` is Held exactly where the number is the first, and none is written. Assumes nothing.
-use Rattle.first.proofs.judge.refused.Statement.{statement}
-use Rattle.first.proofs.judge.refused.Tie as tie
+use Rattle.judge.proofs.refused.Statement.{statement}
+use Rattle.judge.proofs.refused.Tie as tie
 
 pub refused-spec : {M : Type 1} → statement M
 refused-spec =
