@@ -13,14 +13,42 @@ power-at-spec =
     tie.close
     (tie.spec
     (λ c κs. omega arith)
-    (λ c. (simp (no-power (now (c .before .before .before .args .bytes)) (c .before .before .before .args .at) (c .before .word-at .result) (c .before .word-at .ensures .0) (c .before .word-at .ensures .1) (c .if1 .taken)), omega arith))
+    (λ c.
+    let a = c .before .before .before .args in
+    let word-at = c .before .word-at in
+    (simp (no-power (now (a .bytes)) (a .at) (word-at .result) (word-at .ensures .0) (word-at .ensures .1) (c .if1 .taken)), omega arith))
     (λ c. search needs)
-    (λ c. let long = six (now (c .before .before .before .before .args .bytes)) (c .before .before .before .before .args .at) (c .before .before .word-at .result) (c .before .before .word-at .ensures .0) (c .before .if1 .left) (c .before .before .before .before .pre) in omega arith)
+    (λ c.
+    let a = c .before .before .before .before .args in
+    let pre = c .before .before .before .before .pre in
+    let long = six (now (a .bytes)) (a .at) (c .before .before .word-at .result) (c .before .before .word-at .ensures .0) (c .before .if1 .left) (pre) in omega arith)
     (λ c. search needs)
-    (λ c. let long = six (now (c .before .before .before .before .before .args .bytes)) (c .before .before .before .before .before .args .at) (c .before .before .before .word-at .result) (c .before .before .before .word-at .ensures .0) (c .before .before .if1 .left) (c .before .before .before .before .before .pre) in omega arith)
+    (λ c.
+    let a = c .before .before .before .before .before .args in
+    let word-at = c .before .before .before .word-at in
+    let pre = c .before .before .before .before .before .pre in
+    let long = six (now (a .bytes)) (a .at) (word-at .result) (word-at .ensures .0) (c .before .before .if1 .left) (pre) in omega arith)
     (λ c. search needs)
-    (λ c. let long = six (now (c .before .before .before .before .before .before .args .bytes)) (c .before .before .before .before .before .before .args .at) (c .before .before .before .before .word-at .result) (c .before .before .before .before .word-at .ensures .0) (c .before .before .before .if1 .left) (c .before .before .before .before .before .before .pre) in omega arith)
+    (λ c.
+    let a = c .before .before .before .before .before .before .args in
+    let word-at = c .before .before .before .before .word-at in
+    let if1 = c .before .before .before .if1 in
+    let pre = c .before .before .before .before .before .before .pre in
+    let long = six (now (a .bytes)) (a .at) (word-at .result) (word-at .ensures .0) (if1 .left) (pre) in omega arith)
     (λ c. search needs)
-    (λ c. let long = six (now (c .before .before .before .before .before .before .before .args .bytes)) (c .before .before .before .before .before .before .before .args .at) (c .before .before .before .before .before .word-at .result) (c .before .before .before .before .before .word-at .ensures .0) (c .before .before .before .before .if1 .left) (c .before .before .before .before .before .before .before .pre) in omega arith)
-    (λ c. (simp (maybe-power (now (c .before .before .before .before .before .before .before .before .args .bytes)) (c .before .before .before .before .before .before .before .before .args .at) (c .before .before .before .before .before .before .word-at .result) (c .before .before .before .before .before .before .word-at .ensures .0) (c .before .before .before .before .before .before .word-at .ensures .1) (c .before .before .before .before .before .if1 .left), c .if2 .taken), omega arith))
-    (λ c. (simp (maybe-power (now (c .before .before .before .before .before .before .before .before .args .bytes)) (c .before .before .before .before .before .before .before .before .args .at) (c .before .before .before .before .before .before .word-at .result) (c .before .before .before .before .before .before .word-at .ensures .0) (c .before .before .before .before .before .before .word-at .ensures .1) (c .before .before .before .before .before .if1 .left), c .if2 .left), omega arith)))
+    (λ c.
+    let a = c .before .before .before .before .before .before .before .args in
+    let word-at = c .before .before .before .before .before .word-at in
+    let if1 = c .before .before .before .before .if1 in
+    let pre = c .before .before .before .before .before .before .before .pre in
+    let long = six (now (a .bytes)) (a .at) (word-at .result) (word-at .ensures .0) (if1 .left) (pre) in omega arith)
+    (λ c.
+    let a = c .before .before .before .before .before .before .before .before .args in
+    let word-at = c .before .before .before .before .before .before .word-at in
+    let if1 = c .before .before .before .before .before .if1 in
+    (simp (maybe-power (now (a .bytes)) (a .at) (word-at .result) (word-at .ensures .0) (word-at .ensures .1) (if1 .left), c .if2 .taken), omega arith))
+    (λ c.
+    let a = c .before .before .before .before .before .before .before .before .args in
+    let word-at = c .before .before .before .before .before .before .word-at in
+    let if1 = c .before .before .before .before .before .if1 in
+    (simp (maybe-power (now (a .bytes)) (a .at) (word-at .result) (word-at .ensures .0) (word-at .ensures .1) (if1 .left), c .if2 .left), omega arith)))

@@ -30,22 +30,48 @@ search-number-spec =
     (λ c. simp (lt-ltb _ _ (c .if1 .taken)))
     (λ c. (omega arith, omega arith, looks (now (c .before .before .args .pdu)) (c .if1 .left)))
     (λ c. omega arith)
-    (λ c. sym (c .before .before .loop .inv .2 ∙ breaks (now (c .before .before .before .before .before .args .pdu)) (c .before .before .loop .at) (c .before .before .loop .powers) (lone (now (c .before .before .before .before .before .args .pdu)) (c .before .before .loop .at) (c .before .loop-test .taken) (c .if2 .taken))))
+    (λ c.
+    let k = c .before .before .loop in
+    let a = c .before .before .before .before .before .args in
+    sym (k .inv .2 ∙ breaks (now (a .pdu)) (k .at) (k .powers) (lone (now (a .pdu)) (k .at) (c .before .loop-test .taken) (c .if2 .taken))))
     (λ c κs. omega arith)
     (λ c κs. search needs)
-    (λ c. c .counted .ensures ∙ sym (c .before .before .before .before .before .loop .inv .2 ∙ ends (now (c .before .before .before .before .before .before .before .before .args .pdu)) (c .before .before .before .before .before .loop .at) (c .before .before .before .before .before .loop .powers) (type-zero (now (c .before .before .before .before .before .before .before .before .args .pdu)) (c .before .before .before .before .before .loop .at) (c .before .before .word-at .result) (c .before .before .word-at .ensures .0) (c .before .before .word-at .ensures .1) (c .before .before .before .before .loop-test .taken) (c .before .before .before .if2 .left) (c .before .if3 .taken))))
+    (λ c.
+    let k = c .before .before .before .before .before .loop in
+    let a = c .before .before .before .before .before .before .before .before .args in
+    let word-at = c .before .before .word-at in
+    let loop-test = c .before .before .before .before .loop-test in
+    let if2 = c .before .before .before .if2 in
+    c .counted .ensures ∙ sym (k .inv .2 ∙ ends (now (a .pdu)) (k .at) (k .powers) (type-zero (now (a .pdu)) (k .at) (word-at .result) (word-at .ensures .0) (word-at .ensures .1) (loop-test .taken) (if2 .left) (c .before .if3 .taken))))
     (λ c. omega arith)
     (λ c. omega arith)
-    (λ c. sym (c .before .before .before .before .before .loop .inv .2 ∙ breaks (now (c .before .before .before .before .before .before .before .before .args .pdu)) (c .before .before .before .before .before .loop .at) (c .before .before .before .before .before .loop .powers) (too-long (now (c .before .before .before .before .before .before .before .before .args .pdu)) (c .before .before .before .before .before .loop .at) (c .before .before .word-at .result) (c .before .before .word-at .ensures .0) (c .before .before .word-at .ensures .1) (c .before .before .before .before .loop-test .taken) (c .before .before .before .if2 .left) (c .before .if3 .left) (c .if4 .taken))))
-    (λ c κs. omega (arith, size-is (now (c .before .before .before .before .before .before .before .before .args .pdu)) (c .before .before .before .before .before .loop .at) (c .before .before .word-at .result) (c .before .before .word-at .ensures .0)))
+    (λ c.
+    let k = c .before .before .before .before .before .loop in
+    let a = c .before .before .before .before .before .before .before .before .args in
+    let word-at = c .before .before .word-at in
+    let loop-test = c .before .before .before .before .loop-test in
+    let if2 = c .before .before .before .if2 in
+    sym (k .inv .2 ∙ breaks (now (a .pdu)) (k .at) (k .powers) (too-long (now (a .pdu)) (k .at) (word-at .result) (word-at .ensures .0) (word-at .ensures .1) (loop-test .taken) (if2 .left) (c .before .if3 .left) (c .if4 .taken))))
+    (λ c κs.
+    let a = c .before .before .before .before .before .before .before .before .args in
+    let k = c .before .before .before .before .before .loop in
+    omega (arith, size-is (now (a .pdu)) (k .at) (c .before .before .word-at .result) (c .before .before .word-at .ensures .0)))
     (λ c. omega (arith, c .power-at .ensures .1))
     (λ c. omega arith)
     (λ c. omega arith)
-    (λ c. (
+    (λ c.
+    let k = c .before .before .before .before .before .before .loop in
+    let a = c .before .before .before .before .before .before .before .before .before .args in
+    let word-at = c .before .before .before .word-at in
+    let loop-test = c .before .before .before .before .before .loop-test in
+    let if2 = c .before .before .before .before .if2 in (
       omega arith,
       omega (arith, c .power-at .ensures .1),
-      c .before .before .before .before .before .before .loop .inv .2 ∙ goes-on (now (c .before .before .before .before .before .before .before .before .before .args .pdu)) (c .before .before .before .before .before .before .loop .at) (c .before .before .before .before .before .before .loop .powers) (2 + c .before .before .before .word-at .result % 512) (whole-tlv (now (c .before .before .before .before .before .before .before .before .before .args .pdu)) (c .before .before .before .before .before .before .loop .at) (c .before .before .before .word-at .result) (c .before .before .before .word-at .ensures .0) (c .before .before .before .word-at .ensures .1) (c .before .before .before .before .before .loop-test .taken) (c .before .before .before .before .if2 .left) (c .before .before .if3 .left) (c .before .if4 .left))
-          ∙ ap (λ (n : ℕ). outlook (now (c .before .before .before .before .before .before .before .before .before .args .pdu)) (c .before .before .before .before .before .before .loop .powers + n) (walkFrom (now (c .before .before .before .before .before .before .before .before .before .args .pdu)) (c .before .before .before .before .before .before .loop .at + (2 + c .before .before .before .word-at .result % 512)))) (sym (c .power-at .ensures .0)),
+      k .inv .2 ∙ goes-on (now (a .pdu)) (k .at) (k .powers) (2 + word-at .result % 512) (whole-tlv (now (a .pdu)) (k .at) (word-at .result) (word-at .ensures .0) (word-at .ensures .1) (loop-test .taken) (if2 .left) (c .before .before .if3 .left) (c .before .if4 .left))
+          ∙ ap (λ (n : ℕ). outlook (now (a .pdu)) (k .powers + n) (walkFrom (now (a .pdu)) (k .at + (2 + word-at .result % 512)))) (sym (c .power-at .ensures .0)),
     ))
     (λ c κs. search needs)
-    (λ c. c .counted2 .ensures ∙ sym (c .before .before .loop .inv .2 ∙ ends (now (c .before .before .before .before .before .args .pdu)) (c .before .before .loop .at) (c .before .before .loop .powers) (past (now (c .before .before .before .before .before .args .pdu)) (c .before .before .loop .at) (c .before .loop-test .left)))))
+    (λ c.
+    let k = c .before .before .loop in
+    let a = c .before .before .before .before .before .args in
+    c .counted2 .ensures ∙ sym (k .inv .2 ∙ ends (now (a .pdu)) (k .at) (k .powers) (past (now (a .pdu)) (k .at) (c .before .loop-test .left)))))

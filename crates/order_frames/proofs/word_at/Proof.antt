@@ -19,4 +19,6 @@ word-at-spec =
     (λ c. search needs)
     (λ c κs. search needs)
     (λ c. search needs)
-    (λ c. (ap₂ (λ (x y : ℕ). 256 * x + y) (c .before .before .wide .ensures .0) (c .wide2 .ensures .0), omega (arith, c .before .before .wide .ensures .1, c .wide2 .ensures .1))))
+    (λ c.
+    let wide = c .before .before .wide in
+    (ap₂ (λ (x y : ℕ). 256 * x + y) (wide .ensures .0) (c .wide2 .ensures .0), omega (arith, wide .ensures .1, c .wide2 .ensures .1))))

@@ -16,11 +16,24 @@ write-number-spec =
     (tie.spec
     (λ c. search needs)
     (λ c. search needs)
-    (λ c. simp (ap badCodes (c .before .before .before .before .before .form .given .1) ∙ codes-are (c .before .before .before .before .before .form .given .0 .0) ∙ c .if2 .taken))
+    (λ c.
+    let form = c .before .before .before .before .before .form in
+    simp (ap badCodes (form .given .1) ∙ codes-are (form .given .0 .0) ∙ c .if2 .taken))
     (λ c κs. search needs)
     (λ c κs. search needs)
-    (λ c. simp (ap badCodes (c .before .before .before .before .before .before .before .before .form .given .1) ∙ codes-are (c .before .before .before .before .before .before .before .before .form .given .0 .0) ∙ c .before .before .before .if2 .left, ap badValues (c .before .before .before .before .before .before .before .before .form .given .1) ∙ ap₂ _||_ (sym (c .before .before .bad-value .ensures)) (sym (c .before .bad-value2 .ensures)) ∙ c .if3 .taken))
+    (λ c.
+    let form = c .before .before .before .before .before .before .before .before .form in
+    let if2 = c .before .before .before .if2 in
+    simp (ap badCodes (form .given .1) ∙ codes-are (form .given .0 .0) ∙ if2 .left, ap badValues (form .given .1) ∙ ap₂ _||_ (sym (c .before .before .bad-value .ensures)) (sym (c .before .bad-value2 .ensures)) ∙ c .if3 .taken))
     (λ c. simp (c .before .enum-told .given .1, lt-ltb _ _ (c .if1 .taken)))
     (λ c. simp (c .before .enum-told .given .1, le-ltb _ _ (c .if1 .left)))
-    (λ c. simp (ap badCodes (c .before .before .before .before .before .before .before .before .before .form .given .1) ∙ codes-are (c .before .before .before .before .before .before .before .before .before .form .given .0 .0) ∙ c .before .before .before .before .if2 .left, ap badValues (c .before .before .before .before .before .before .before .before .before .form .given .1) ∙ ap₂ _||_ (sym (c .before .before .before .bad-value .ensures)) (sym (c .before .before .bad-value2 .ensures)) ∙ c .before .if3 .left) (simp (c .before .before .before .before .before .before .before .before .before .form .given .1, lt-ltb _ _ (c .if4 .taken))))
-    (λ c. simp (ap badCodes (c .before .before .before .before .before .before .before .before .before .form .given .1) ∙ codes-are (c .before .before .before .before .before .before .before .before .before .form .given .0 .0) ∙ c .before .before .before .before .if2 .left, ap badValues (c .before .before .before .before .before .before .before .before .before .form .given .1) ∙ ap₂ _||_ (sym (c .before .before .before .bad-value .ensures)) (sym (c .before .before .bad-value2 .ensures)) ∙ c .before .if3 .left) (simp (c .before .before .before .before .before .before .before .before .before .form .given .1, le-ltb _ _ (c .if4 .left)))))
+    (λ c.
+    let form = c .before .before .before .before .before .before .before .before .before .form in
+    let if2 = c .before .before .before .before .if2 in
+    let bad-value = c .before .before .before .bad-value in
+    simp (ap badCodes (form .given .1) ∙ codes-are (form .given .0 .0) ∙ if2 .left, ap badValues (form .given .1) ∙ ap₂ _||_ (sym (bad-value .ensures)) (sym (c .before .before .bad-value2 .ensures)) ∙ c .before .if3 .left) (simp (form .given .1, lt-ltb _ _ (c .if4 .taken))))
+    (λ c.
+    let form = c .before .before .before .before .before .before .before .before .before .form in
+    let if2 = c .before .before .before .before .if2 in
+    let bad-value = c .before .before .before .bad-value in
+    simp (ap badCodes (form .given .1) ∙ codes-are (form .given .0 .0) ∙ if2 .left, ap badValues (form .given .1) ∙ ap₂ _||_ (sym (bad-value .ensures)) (sym (c .before .before .bad-value2 .ensures)) ∙ c .before .if3 .left) (simp (form .given .1, le-ltb _ _ (c .if4 .left)))))

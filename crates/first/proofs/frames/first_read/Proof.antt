@@ -16,7 +16,14 @@ first-read-spec =
     (λ c κs. search needs)
     (λ c. search needs)
     (λ c κs. search needs)
-    (λ c. held-answered _ _ (c .answered .ensures) (c .before .before .before .before .read-number .ensures ∙ read-answered (now (c .before .before .before .before .before .before .args .bytes)) _ (sym (c .before .before .before .read .ensures) ∙ c .before .enum-told .given .1)))
     (λ c.
-    let r = read-refused (now (c .before .before .before .before .before .before .before .args .bytes)) _ (sym (c .before .before .before .before .read .ensures) ∙ c .before .before .number .given .1) in
-    held-refused _ _ _ (c .refused .ensures) (r .0 ∙ sym (c .before .before .before .before .before .read-number .ensures)) (r .1)))
+    let read-number = c .before .before .before .before .read-number in
+    let a = c .before .before .before .before .before .before .args in
+    let read = c .before .before .before .read in
+    held-answered _ _ (c .answered .ensures) (read-number .ensures ∙ read-answered (now (a .bytes)) _ (sym (read .ensures) ∙ c .before .enum-told .given .1)))
+    (λ c.
+    let a = c .before .before .before .before .before .before .before .args in
+    let read = c .before .before .before .before .read in
+    let read-number = c .before .before .before .before .before .read-number in
+    let r = read-refused (now (a .bytes)) _ (sym (read .ensures) ∙ c .before .before .number .given .1) in
+    held-refused _ _ _ (c .refused .ensures) (r .0 ∙ sym (read-number .ensures)) (r .1)))

@@ -16,7 +16,14 @@ first-search-spec =
     (λ c κs. search needs)
     (λ c. search needs)
     (λ c κs. search needs)
-    (λ c. held-answered _ _ (c .answered .ensures) (c .before .before .before .before .search-number .ensures ∙ search-answered (now (c .before .before .before .before .before .before .args .pdu)) _ _ (sym (c .before .before .before .search .ensures) ∙ c .before .enum-told .given .1)))
     (λ c.
-    let r = search-refused (now (c .before .before .before .before .before .before .before .args .pdu)) _ (sym (c .before .before .before .before .search .ensures) ∙ c .before .before .number .given .1) in
-    held-refused _ _ _ (c .refused .ensures) (r .0 ∙ sym (c .before .before .before .before .before .search-number .ensures)) (r .1)))
+    let search-number = c .before .before .before .before .search-number in
+    let a = c .before .before .before .before .before .before .args in
+    let search = c .before .before .before .search in
+    held-answered _ _ (c .answered .ensures) (search-number .ensures ∙ search-answered (now (a .pdu)) _ _ (sym (search .ensures) ∙ c .before .enum-told .given .1)))
+    (λ c.
+    let a = c .before .before .before .before .before .before .before .args in
+    let search = c .before .before .before .before .search in
+    let search-number = c .before .before .before .before .before .search-number in
+    let r = search-refused (now (a .pdu)) _ (sym (search .ensures) ∙ c .before .before .number .given .1) in
+    held-refused _ _ _ (c .refused .ensures) (r .0 ∙ sym (search-number .ensures)) (r .1)))

@@ -25,12 +25,21 @@ first-write-spec =
     (λ c κs. search needs)
     (λ c. search needs)
     (λ c.
+    let same-bytes = c .before .before .before .before .before .before .before .before .before .before .same-bytes in
+    let if1 = c .before .before .before .before .before .before .before .before .before .if1 in
+    let write = c .before .before .before .before .before .write in
+    let write-number = c .before .before .before .before .before .before .before .write-number in
     let a = c .before .before .before .before .before .before .before .before .before .before .before .before .before .before .args in
-    let s = sym (c .before .before .before .before .before .before .before .before .before .before .same-bytes .ensures) ∙ not-false (c .before .before .before .before .before .before .before .before .before .before .same-bytes .result) (c .before .before .before .before .before .before .before .before .before .if1 .left) in
-    held-answer _ s _ _ _ _ _ (c .before .before .before .before .before .write .ensures .1) (c .answered .ensures) (c .before .before .before .before .before .before .before .write-number .ensures ∙ write-answered (a .fields) (now (a .room)) _ (sym (c .before .before .before .before .before .write .ensures .0) ∙ c .before .enum-told .given .1)))
+    let s = sym (same-bytes .ensures) ∙ not-false (same-bytes .result) (if1 .left) in
+    held-answer _ s _ _ _ _ _ (write .ensures .1) (c .answered .ensures) (write-number .ensures ∙ write-answered (a .fields) (now (a .room)) _ (sym (write .ensures .0) ∙ c .before .enum-told .given .1)))
     (λ c. search needs)
     (λ c.
+    let same-bytes = c .before .before .before .before .before .before .before .before .before .before .before .before .before .same-bytes in
+    let if1 = c .before .before .before .before .before .before .before .before .before .before .before .before .if1 in
     let a = c .before .before .before .before .before .before .before .before .before .before .before .before .before .before .before .before .before .args in
-    let s = sym (c .before .before .before .before .before .before .before .before .before .before .before .before .before .same-bytes .ensures) ∙ not-false (c .before .before .before .before .before .before .before .before .before .before .before .before .before .same-bytes .result) (c .before .before .before .before .before .before .before .before .before .before .before .before .if1 .left) in
-    let r = write-refused (a .fields) (now (a .room)) _ (sym (c .before .before .before .before .before .before .before .before .write .ensures .0) ∙ c .before .before .before .before .number .given .1) in
-    held-refusal _ s _ _ _ _ _ (c .before .before .before .before .before .before .before .before .write .ensures .1) _ _ _ (c .refused .ensures) (c .before .before .before .before .before .before .before .before .before .before .write-number .ensures) r (λ e. c .before .same-bytes2 .ensures ∙ ap (alike (now (a .before))) (c .before .before .before .before .before .before .before .before .write .ensures .1 ∙ e) ∙ s)))
+    let write = c .before .before .before .before .before .before .before .before .write in
+    let number = c .before .before .before .before .number in
+    let write-number = c .before .before .before .before .before .before .before .before .before .before .write-number in
+    let s = sym (same-bytes .ensures) ∙ not-false (same-bytes .result) (if1 .left) in
+    let r = write-refused (a .fields) (now (a .room)) _ (sym (write .ensures .0) ∙ number .given .1) in
+    held-refusal _ s _ _ _ _ _ (write .ensures .1) _ _ _ (c .refused .ensures) (write-number .ensures) r (λ e. c .before .same-bytes2 .ensures ∙ ap (alike (now (a .before))) (write .ensures .1 ∙ e) ∙ s)))

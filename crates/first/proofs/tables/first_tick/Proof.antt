@@ -24,12 +24,21 @@ first-tick-spec =
     (λ c κs. search needs)
     (λ c. search needs)
     (λ c.
+    let same = c .before .before .before .before .before .before .before .before .before .before .same in
+    let if1 = c .before .before .before .before .before .before .before .before .before .if1 in
+    let tick = c .before .before .before .before .before .tick in
+    let tick-number = c .before .before .before .before .before .before .before .tick-number in
     let a = c .before .before .before .before .before .before .before .before .before .before .before .before .before .before .before .args in
-    let s = sym (c .before .before .before .before .before .before .before .before .before .before .same .ensures) ∙ not-false (c .before .before .before .before .before .before .before .before .before .before .same .result) (c .before .before .before .before .before .before .before .before .before .if1 .left) in
-    held-answer _ s _ _ _ _ _ (c .before .before .before .before .before .tick .ensures .1) (c .answered .ensures) (c .before .before .before .before .before .before .before .tick-number .ensures ∙ tick-answered (now (a .cells)) (now (a .block)) (a .figure) _ _ _ (sym (c .before .before .before .before .before .tick .ensures .0) ∙ c .before .enum-told .given .1)))
+    let s = sym (same .ensures) ∙ not-false (same .result) (if1 .left) in
+    held-answer _ s _ _ _ _ _ (tick .ensures .1) (c .answered .ensures) (tick-number .ensures ∙ tick-answered (now (a .cells)) (now (a .block)) (a .figure) _ _ _ (sym (tick .ensures .0) ∙ c .before .enum-told .given .1)))
     (λ c. search needs)
     (λ c.
+    let same = c .before .before .before .before .before .before .before .before .before .before .before .before .before .same in
+    let if1 = c .before .before .before .before .before .before .before .before .before .before .before .before .if1 in
     let a = c .before .before .before .before .before .before .before .before .before .before .before .before .before .before .before .before .before .before .args in
-    let s = sym (c .before .before .before .before .before .before .before .before .before .before .before .before .before .same .ensures) ∙ not-false (c .before .before .before .before .before .before .before .before .before .before .before .before .before .same .result) (c .before .before .before .before .before .before .before .before .before .before .before .before .if1 .left) in
-    let r = tick-refused (now (a .cells)) (now (a .block)) (a .figure) _ (sym (c .before .before .before .before .before .before .before .before .tick .ensures .0) ∙ c .before .before .before .before .number .given .1) in
-    held-refusal _ s _ _ _ _ _ (c .before .before .before .before .before .before .before .before .tick .ensures .1) _ _ _ (c .refused .ensures) (c .before .before .before .before .before .before .before .before .before .before .tick-number .ensures) r (λ e. c .before .same2 .ensures ∙ ap (alike (now (a .before))) (c .before .before .before .before .before .before .before .before .tick .ensures .1 ∙ e) ∙ s)))
+    let tick = c .before .before .before .before .before .before .before .before .tick in
+    let number = c .before .before .before .before .number in
+    let tick-number = c .before .before .before .before .before .before .before .before .before .before .tick-number in
+    let s = sym (same .ensures) ∙ not-false (same .result) (if1 .left) in
+    let r = tick-refused (now (a .cells)) (now (a .block)) (a .figure) _ (sym (tick .ensures .0) ∙ number .given .1) in
+    held-refusal _ s _ _ _ _ _ (tick .ensures .1) _ _ _ (c .refused .ensures) (tick-number .ensures) r (λ e. c .before .same2 .ensures ∙ ap (alike (now (a .before))) (tick .ensures .1 ∙ e) ∙ s)))

@@ -23,14 +23,14 @@ due s = firstNumber (controlList (now (s .args .cells)) (s .args .port) (s .args
 abbrev left : ℕ → tie.Start → ℕ
 left n s = firstNumber (drop n (controlRefusals (tableOf (now (s .args .cells))) (s .args .port) (s .args .word)))
 
-fine : (c : tie.Else1) → illCells (now ((c .before .before .before) .args .cells)) ≡ false
+fine : (c : tie.Else1) → illCells (now (c .before .before .before .args .cells)) ≡ false
 fine c = sym (c .before .ill-made .ensures) ∙ c .if1 .left
 
 -- what was asked so far does not hold
 past1 : (c : tie.Else1) → due (c .before .before .before) ≡ left 1 (c .before .before .before)
-past1 c = let s = (c .before .before .before) in well-first (now (s .args .cells)) (drop 1 (controlRefusals (tableOf (now (s .args .cells))) (s .args .port) (s .args .word))) (fine c)
+past1 c = let s = c .before .before .before in well-first (now (s .args .cells)) (drop 1 (controlRefusals (tableOf (now (s .args .cells))) (s .args .port) (s .args .word))) (fine c)
 
-at : (c : tie.Else2) → AtPort (now ((c .before .before .before .before .before) .args .cells)) ((c .before .before .before .before .before) .args .port)
+at : (c : tie.Else2) → AtPort (now (c .before .before .before .before .before .args .cells)) (c .before .before .before .before .before .args .port)
 at c = at-port _ _ (well-of _ (fine (c .before .before))) (c .if2 .left)
 
 past2 : (c : tie.Else2) → due (c .before .before .before .before .before) ≡ left 2 (c .before .before .before .before .before)

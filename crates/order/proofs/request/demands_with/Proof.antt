@@ -52,14 +52,17 @@ demands-with-spec =
     (λ c. omega arith)
     (λ c.
     let k = c .before .before .before .before .before .loop in
-    let l = now (c .before .before .before .before .before .before .before .before .args .cells) in
-    let f = drawnAt l (c .before .before .before .before .before .before .before .before .args .level) (c .before .before .before .before .before .before .before .before .args .at) in (
+    let a = c .before .before .before .before .before .before .before .before .args in
+    let l = now (a .cells) in
+    let f = drawnAt l (a .level) (a .at) in (
       omega arith,
-      ap (λ (x : ℕ). k .sum + x) (c .drawn .ensures .0 ∙ ap (λ (x : ℕ). cond (closed (stateOf (getD l (8 + k .p) 0))) x 0) (c .before .pick .ensures) ∙ sym (draws-with l (tenths (c .before .before .before .before .before .before .before .before .args .level)) (c .before .before .before .before .before .before .before .before .args .at) (k .p) (omega arith)))
+      ap (λ (x : ℕ). k .sum + x) (c .drawn .ensures .0 ∙ ap (λ (x : ℕ). cond (closed (stateOf (getD l (8 + k .p) 0))) x 0) (c .before .pick .ensures) ∙ sym (draws-with l (tenths (a .level)) (a .at) (k .p) (omega arith)))
           ∙ ap (λ (x : ℕ). x + f (k .p)) (k .inv .1) ∙ sym (total-next (k .p) f),
       omega (arith, c .drawn .ensures .1),
     ))
     (λ c.
-    let l = now (c .before .before .before .before .args .cells) in
-    let e : c .before .loop .p ≡ countCell l = le-antisymm (c .before .loop .inv .0) (omega arith) in
-    c .before .loop .inv .1 ∙ ap (λ (n : ℕ). total n (drawnAt l (c .before .before .before .before .args .level) (c .before .before .before .before .args .at))) e))
+    let a = c .before .before .before .before .args in
+    let k = c .before .loop in
+    let l = now (a .cells) in
+    let e : k .p ≡ countCell l = le-antisymm (k .inv .0) (omega arith) in
+    k .inv .1 ∙ ap (λ (n : ℕ). total n (drawnAt l (a .level) (a .at))) e))

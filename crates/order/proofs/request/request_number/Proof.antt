@@ -28,14 +28,14 @@ due s = firstNumber (requestList (now (s .args .cells)) (s .args .port) (s .args
 abbrev left : ℕ → tie.Start → ℕ
 left n s = firstNumber (drop n (requestRefusals (tableOf (now (s .args .cells))) (s .args .port) (s .args .value)))
 
-fine : (c : tie.Else1) → illCells (now ((c .before .before .before) .args .cells)) ≡ false
+fine : (c : tie.Else1) → illCells (now (c .before .before .before .args .cells)) ≡ false
 fine c = sym (c .before .ill-made .ensures) ∙ c .if1 .left
 
 -- what was asked so far does not hold
 past1 : (c : tie.Else1) → due (c .before .before .before) ≡ left 1 (c .before .before .before)
-past1 c = let s = (c .before .before .before) in well-first (now (s .args .cells)) (drop 1 (requestRefusals (tableOf (now (s .args .cells))) (s .args .port) (s .args .value))) (fine c)
+past1 c = let s = c .before .before .before in well-first (now (s .args .cells)) (drop 1 (requestRefusals (tableOf (now (s .args .cells))) (s .args .port) (s .args .value))) (fine c)
 
-at : (c : tie.Else2) → AtPort (now ((c .before .before .before .before .before) .args .cells)) ((c .before .before .before .before .before) .args .port)
+at : (c : tie.Else2) → AtPort (now (c .before .before .before .before .before .args .cells)) (c .before .before .before .before .before .args .port)
 at c = at-port _ _ (well-of _ (fine (c .before .before))) (c .if2 .left)
 
 past2 : (c : tie.Else2) → due (c .before .before .before .before .before) ≡ left 2 (c .before .before .before .before .before)
@@ -52,20 +52,20 @@ past4 c = past3 (c .before .before) ∙ simp (power-on-at _ _ (at (c .before .be
 
 -- the level is over the class's budget, and over what the supply has left for it
 over-class : (c : tie.After-level)
-    → over (levelOf ((c .before .before .before .before .before .before .before .before .before) .args .value)) (budgetOf (portAt (tableOf (now ((c .before .before .before .before .before .before .before .before .before) .args .cells))) ((c .before .before .before .before .before .before .before .before .before) .args .port) .class))
-    ≡ ltb (getD budgets (getD (now ((c .before .before .before .before .before .before .before .before .before) .args .cells)) (152 + (c .before .before .before .before .before .before .before .before .before) .args .port) 0) 0) (c .level .result)
+    → over (levelOf (c .before .before .before .before .before .before .before .before .before .args .value)) (budgetOf (portAt (tableOf (now (c .before .before .before .before .before .before .before .before .before .args .cells))) (c .before .before .before .before .before .before .before .before .before .args .port) .class))
+    ≡ ltb (getD budgets (getD (now (c .before .before .before .before .before .before .before .before .before .args .cells)) (152 + c .before .before .before .before .before .before .before .before .before .args .port) 0) 0) (c .level .result)
 over-class c =
-    let s = (c .before .before .before .before .before .before .before .before .before) in
+    let s = c .before .before .before .before .before .before .before .before .before in
     class-over _ _ (at (c .before .before .before .before)) (levelOf (s .args .value)) ∙ ap (ltb (getD budgets (getD (now (s .args .cells)) (152 + s .args .port) 0) 0)) (sym (c .level .ensures))
 
 over-supply : (c : tie.After-demands-with)
-    → overSupply (levelOf ((c .before .before .before .before .before .before .before .before .before .before .before .before .before .before) .args .value)) ((c .before .before .before .before .before .before .before .before .before .before .before .before .before .before) .args .port) (tableOf (now ((c .before .before .before .before .before .before .before .before .before .before .before .before .before .before) .args .cells)))
-    ≡ (ltb (getD (now ((c .before .before .before .before .before .before .before .before .before .before .before .before .before .before) .args .cells)) (104 + (c .before .before .before .before .before .before .before .before .before .before .before .before .before .before) .args .port) 0) ((c .before .before .before .before .before) .level .result) && ltb (getD (now ((c .before .before .before .before .before .before .before .before .before .before .before .before .before .before) .args .cells)) 1 0) (c .demands-with .result))
+    → overSupply (levelOf (c .before .before .before .before .before .before .before .before .before .before .before .before .before .before .args .value)) (c .before .before .before .before .before .before .before .before .before .before .before .before .before .before .args .port) (tableOf (now (c .before .before .before .before .before .before .before .before .before .before .before .before .before .before .args .cells)))
+    ≡ (ltb (getD (now (c .before .before .before .before .before .before .before .before .before .before .before .before .before .before .args .cells)) (104 + c .before .before .before .before .before .before .before .before .before .before .before .before .before .before .args .port) 0) (c .before .before .before .before .before .level .result) && ltb (getD (now (c .before .before .before .before .before .before .before .before .before .before .before .before .before .before .args .cells)) 1 0) (c .demands-with .result))
 over-supply c =
-    let s = (c .before .before .before .before .before .before .before .before .before .before .before .before .before .before) in
+    let s = c .before .before .before .before .before .before .before .before .before .before .before .before .before .before in
     let l = now (s .args .cells) in
     let p = s .args .port in
-    let asked = (c .before .before .before .before .before) .level in
+    let asked = c .before .before .before .before .before .level in
     supply-over l p (at (c .before .before .before .before .before .before .before .before .before)) (levelOf (s .args .value))
     ∙ ap (λ (d : ℕ). ltb (getD l (104 + p) 0) d && ltb (getD l 1 0) (closedSum (granting (tenths d) p (tableOf l)))) (sym (asked .ensures))
     ∙ ap (λ (n : ℕ). ltb (getD l (104 + p) 0) (asked .result) && ltb (getD l 1 0) n) (sym (c .demands-with .ensures))

@@ -22,12 +22,12 @@ due s = firstNumber (statusList (now (s .args .cells)) (s .args .port))
 abbrev left : ℕ → tie.Start → ℕ
 left n s = firstNumber (drop n (statusRefusals (tableOf (now (s .args .cells))) (s .args .port)))
 
-fine : (c : tie.Else1) → illCells (now ((c .before .before .before) .args .cells)) ≡ false
+fine : (c : tie.Else1) → illCells (now (c .before .before .before .args .cells)) ≡ false
 fine c = sym (c .before .ill-made .ensures) ∙ c .if1 .left
 
 -- what was asked so far does not hold
 past1 : (c : tie.Else1) → due (c .before .before .before) ≡ left 1 (c .before .before .before)
-past1 c = let s = (c .before .before .before) in well-first (now (s .args .cells)) (drop 1 (statusRefusals (tableOf (now (s .args .cells))) (s .args .port))) (fine c)
+past1 c = let s = c .before .before .before in well-first (now (s .args .cells)) (drop 1 (statusRefusals (tableOf (now (s .args .cells))) (s .args .port))) (fine c)
 
 pub status-number-spec : {M : Type 1} → statement M
 unfolding tableOf

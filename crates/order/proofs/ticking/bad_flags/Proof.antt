@@ -45,6 +45,9 @@ bad-flags-spec =
     (λ c. omega arith)
     (λ c.
     let k = c .before .before .before .before .before .loop in
-    let b = now (c .before .before .before .before .before .before .before .args .block) in
+    let a = c .before .before .before .before .before .before .before .args in
+    let b = now (a .block) in
     (omega arith, ap₂ _||_ (k .inv .1) (ap₂ (λ (x y : ℕ). leb 64 (256 * x + y)) (c .before .before .wide .ensures .0) (c .wide2 .ensures .0)) ∙ sym (some-next (k .p) (badAt b))))
-    (λ c. c .before .loop .inv .1 ∙ ap (λ (n : ℕ). someBelow n (badAt (now (c .before .before .before .args .block)))) (le-antisymm (c .before .loop .inv .0) (omega arith))))
+    (λ c.
+    let a = c .before .before .before .args in
+    c .before .loop .inv .1 ∙ ap (λ (n : ℕ). someBelow n (badAt (now (a .block)))) (le-antisymm (c .before .loop .inv .0) (omega arith))))

@@ -22,12 +22,12 @@ due s = firstNumber (tickList (now (s .args .cells)) (now (s .args .block)) (s .
 abbrev left : ℕ → tie.Start → ℕ
 left n s = firstNumber (drop n (tickRefusals (tableOf (now (s .args .cells))) (now (s .args .block)) (s .args .figure)))
 
-fine : (c : tie.Else1) → illCells (now ((c .before .before .before .before) .args .cells)) ≡ false
+fine : (c : tie.Else1) → illCells (now (c .before .before .before .before .args .cells)) ≡ false
 fine c = sym (c .before .ill-made .ensures) ∙ c .if1 .left
 
 -- what was asked so far does not hold
 past1 : (c : tie.Else1) → due (c .before .before .before .before) ≡ left 1 (c .before .before .before .before)
-past1 c = let s = (c .before .before .before .before) in well-first (now (s .args .cells)) (drop 1 (tickRefusals (tableOf (now (s .args .cells))) (now (s .args .block)) (s .args .figure))) (fine c)
+past1 c = let s = c .before .before .before .before in well-first (now (s .args .cells)) (drop 1 (tickRefusals (tableOf (now (s .args .cells))) (now (s .args .block)) (s .args .figure))) (fine c)
 
 past2 : (c : tie.Else2) → due (c .before .before .before .before .before .before) ≡ left 2 (c .before .before .before .before .before .before)
 unfolding tableOf flagsReserved
