@@ -18,7 +18,7 @@ ghost use mathlib.Core.Path.{_≡_};
 ghost use mathlib.Core.Bool.{cond};
 ghost use Rattle.writer.specs.Write.{roomAfter};
 ghost use Rattle.verdict.specs.declared.Verdict.the-variants.{Held, NotAsked};
-ghost use Rattle.first.specs.Alike.{alike};
+ghost use Rattle.held.specs.Alike.{alike};
 
 pub fn first_search(pdu: &[u8]) -> Verdict
     ensures { λ r. ⌜ r ≡ Held ⌝ }

@@ -4,7 +4,7 @@ ghost use mathlib.Core.Path.{_≡_};
 ghost use mathlib.Core.Bool.{cond, not, _&&_};
 ghost use lib.Dec.{eqb};
 ghost use Rattle.verdict.specs.declared.Verdict.the-variants.{Held, Broken};
-ghost use Rattle.first.specs.Alike.{alike};
+ghost use Rattle.held.specs.Alike.{alike};
 
 // As many cells, and each holds the same.
 pub fn same(before: &[u16], cells: &[u16]) -> bool

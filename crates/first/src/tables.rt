@@ -20,10 +20,10 @@ use verdict::Verdict;
 ghost use mathlib.Core.Path.{_≡_};
 ghost use mathlib.Core.Bool.{cond};
 ghost use Rattle.cells.specs.Lent.{cellsTold, cellsRead, cellsTicked, cellsCold};
-ghost use Rattle.calls.specs.OnCells.{startOn, controlOn, statusOn, requestOn};
-ghost use Rattle.tick.specs.OnCells.{tickOn};
+ghost use Rattle.replies.specs.OnCells.{startOn, controlOn, statusOn, requestOn};
+ghost use Rattle.passes.specs.OnCells.{tickOn};
 ghost use Rattle.verdict.specs.declared.Verdict.the-variants.{Held, NotAsked};
-ghost use Rattle.first.specs.Alike.{alike};
+ghost use Rattle.held.specs.Alike.{alike};
 
 pub fn first_start(cells: &mut [u16], before: &[u16], ports: u64) -> Verdict
     ensures { λ r. ⌜ r ≡ cond (alike (now (before .entry)) (now (cells .entry))) Held NotAsked ⌝ }

@@ -5,8 +5,8 @@ use borrow.Author.Tests.{le-leb, lt-leb}
 use denote.Ref.{now}
 use lib.ListN.{drop}
 use Rattle.cells.specs.Cells.{tableOf}
-use Rattle.calls.specs.Calls.{controlRefusals}
-use Rattle.calls.specs.OnLaws.{at-port}
+use Rattle.replies.specs.Calls.{controlRefusals}
+use Rattle.replies.specs.OnLaws.{at-port}
 use Rattle.order.specs.Order.{ill-first, well-first, well-of, well-cells-of, alternative-at}
 use borrow.Author.Needs.{needs}
 use native.Mathlib.Omega.{arith}

@@ -10,8 +10,8 @@ use Rattle.power.specs.Power.{tenths}
 use Rattle.class.specs.Class.{budgets}
 use Rattle.table.specs.Drawn.{closedSum}
 use Rattle.cells.specs.Cells.{tableOf}
-use Rattle.calls.specs.Calls.{levelOf, granting, requestRefusals}
-use Rattle.calls.specs.OnLaws.{at-port}
+use Rattle.replies.specs.Calls.{levelOf, granting, requestRefusals}
+use Rattle.replies.specs.OnLaws.{at-port}
 use Rattle.order.specs.Order.{ill-first, well-first, well-of, well-cells-of, power-on-at, class-over, supply-over}
 use borrow.Author.Needs.{needs}
 use native.Mathlib.Omega.{arith}

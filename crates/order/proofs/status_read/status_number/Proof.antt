@@ -4,7 +4,7 @@ use borrow.Author.Tests.{le-leb, lt-leb}
 use denote.Ref.{now}
 use lib.ListN.{drop}
 use Rattle.cells.specs.Cells.{tableOf}
-use Rattle.calls.specs.Calls.{statusRefusals}
+use Rattle.replies.specs.Calls.{statusRefusals}
 use Rattle.order.specs.Order.{ill-first, well-first, well-cells-of}
 use borrow.Author.Needs.{needs}
 use native.Mathlib.Omega.{arith}

@@ -4,7 +4,7 @@ use borrow.Author.Tests.{eq-eqb, ne-eqb, lt-ltb, le-ltb}
 use denote.Ref.{now}
 use lib.ListN.{drop}
 use Rattle.cells.specs.Cells.{tableOf}
-use Rattle.tick.specs.Tick.{flagsReserved, tickRefusals}
+use Rattle.passes.specs.Tick.{flagsReserved, tickRefusals}
 use Rattle.order.specs.Order.{ill-first, well-first, well-cells-of}
 use borrow.Author.Needs.{needs}
 use native.Mathlib.Omega.{arith}
