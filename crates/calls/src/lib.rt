@@ -23,10 +23,10 @@ ghost use Rattle.table.specs.Form.{portAt};
 ghost use Rattle.cells.specs.Cells.{cellsLong, tableOf, cellsOf};
 ghost use Rattle.cells.specs.Codes.{stateOf};
 ghost use Rattle.cells.specs.Lent.{cellsTold, cellsRead, cellsCold};
-ghost use Rattle.calls.specs.Calls.{coldTable, sameAlternative, levelOf, granting, overSupply};
-ghost use Rattle.calls.specs.Cold.{coldCell};
-ghost use Rattle.calls.specs.OnCells.{startOn, controlOn, statusOn, requestOn};
-ghost use Rattle.calls.specs.OnLaws.{AtPort, controlRest, requestRest};
+ghost use Rattle.replies.specs.Calls.{coldTable, sameAlternative, levelOf, granting, overSupply};
+ghost use Rattle.replies.specs.Cold.{coldCell};
+ghost use Rattle.replies.specs.OnCells.{startOn, controlOn, statusOn, requestOn};
+ghost use Rattle.replies.specs.OnLaws.{AtPort, controlRest, requestRest};
 
 // Enable 00, alternative A, priority unknown.
 const COLD: u16 = 0x0004;

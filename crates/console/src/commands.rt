@@ -86,7 +86,7 @@ fn loaded(image: &[u8], room: &mut [u16], many: usize, out: &mut [u8], at: usize
     if room.len() < 728 {
         return bad_image(many, out, at);
     }
-    if image::load::load(image, &mut room[..728]) {
+    if load::load(image, &mut room[..728]) {
         let to = text::line(out, at, b"ok");
         return Held { many: 728, at: to };
     }
@@ -112,7 +112,7 @@ fn dump(line: &[u8], cells: &[u16], out: &mut [u8], at: usize) -> usize {
         return bad_line(out, at);
     }
     let mut room = [0u8; 1_014];
-    if image::store::store(cells, &mut room) {
+    if store::store(cells, &mut room) {
         let to = hex(out, at, &room);
         return end(out, to);
     }

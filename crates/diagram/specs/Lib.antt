@@ -1,5 +1,2 @@
-pub mod Latched
-pub mod Open
-pub mod Outcomes
 pub mod Rules
 pub mod Step

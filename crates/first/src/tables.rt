@@ -20,8 +20,8 @@ use verdict::Verdict;
 ghost use mathlib.Core.Path.{_≡_};
 ghost use mathlib.Core.Bool.{cond};
 ghost use Rattle.cells.specs.Lent.{cellsTold, cellsRead, cellsTicked, cellsCold};
-ghost use Rattle.calls.specs.OnCells.{startOn, controlOn, statusOn, requestOn};
-ghost use Rattle.tick.specs.OnCells.{tickOn};
+ghost use Rattle.replies.specs.OnCells.{startOn, controlOn, statusOn, requestOn};
+ghost use Rattle.passes.specs.OnCells.{tickOn};
 ghost use Rattle.verdict.specs.declared.Verdict.the-variants.{Held, NotAsked};
 ghost use Rattle.judge.specs.Alike.{alike};
 

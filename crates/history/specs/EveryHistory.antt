@@ -23,9 +23,9 @@ use Rattle.table.specs.declared.form.StatusRead.{StatusRead}
 use Rattle.table.specs.declared.form.Table.{Table}
 use Rattle.table.specs.declared.form.Ticked.{Ticked}
 use Rattle.table.specs.declared.form.Told.{Told}
-use Rattle.calls.specs.Calls.{controlRefusals, writeControl, statusRefusals, readStatus, requestRefusals, request}
-use Rattle.tick.specs.Tick.{tick}
-use Rattle.ipaqsuni.specs.Laws.{Are}
+use Rattle.replies.specs.Calls.{controlRefusals, writeControl, statusRefusals, readStatus, requestRefusals, request}
+use Rattle.passes.specs.Tick.{tick}
+use Rattle.interface.specs.Laws.{Are}
 use Rattle.statements.specs.History.{Call, control, status, requested, ticked, after, reached, Shown, nothing, adds, shown}
 use Rattle.statements.specs.Reached.{Stopped, Ran, tick-told, reached-well}
 use Rattle.history.specs.Decode.{callsOf}

@@ -5,8 +5,8 @@ use mathlib.Core.List.{List, [], _∷_}
 use lib.ListN.{replicate}
 use Rattle.cells.specs.Cells.{cellsLong}
 use Rattle.cells.specs.Lent.{cellsTold, cellsRead, cellsTicked, cellsCold}
-use Rattle.calls.specs.OnCells.{startOn, controlOn, statusOn, requestOn}
-use Rattle.tick.specs.OnCells.{tickOn}
+use Rattle.replies.specs.OnCells.{startOn, controlOn, statusOn, requestOn}
+use Rattle.passes.specs.OnCells.{tickOn}
 use Rattle.statements.specs.History.{Call, control, status, requested, ticked, accepted}
 
 -- the cells after a call, accepted or refused

@@ -17,11 +17,11 @@ use Rattle.table.specs.declared.form.Told.{Told}
 use Rattle.cells.specs.Cells.{cellsLong, tableOf, isTable}
 use Rattle.cells.specs.Lent.{cellsTold, cellsRead, cellsTicked, cellsCold}
 use Rattle.boards.specs.Masks.{answered}
-use Rattle.calls.specs.Calls.{coldTable, coldStart, controlRefusals, writeControl, statusRefusals, statusAt, readStatus, requestRefusals, request}
-use Rattle.calls.specs.OnCells.{startOn, controlOn, statusOn, requestOn}
-use Rattle.tick.specs.OnCells.{tickOn}
-use Rattle.tick.specs.Tick.{tickRefusals, tick}
-use Rattle.ipaqsuni.specs.Laws.{Are, next-call, cold-are, with-port-are, after-are}
+use Rattle.replies.specs.Calls.{coldTable, coldStart, controlRefusals, writeControl, statusRefusals, statusAt, readStatus, requestRefusals, request}
+use Rattle.replies.specs.OnCells.{startOn, controlOn, statusOn, requestOn}
+use Rattle.passes.specs.OnCells.{tickOn}
+use Rattle.passes.specs.Tick.{tickRefusals, tick}
+use Rattle.interface.specs.Laws.{Are, next-call, cold-are, with-port-are, after-are}
 use Rattle.statements.specs.History.{Call, control, status, requested, ticked, after, reached}
 use Rattle.history.specs.Lent.{cellsAfter, cellsStarted, cellsReached}
 

@@ -15,7 +15,7 @@ use Rattle.port.specs.declared.form.Port.{Port}
 use Rattle.table.specs.Form.{noPort, portAt}
 use Rattle.table.specs.declared.form.Table.{Table}
 use Rattle.table.specs.declared.form.Ticked.{Ticked}
-use Rattle.calls.specs.Calls.{coldPort, coldTable, coldStart}
+use Rattle.replies.specs.Calls.{coldPort, coldTable, coldStart}
 use Rattle.statements.specs.History.{Call, control, status, requested, ticked, after, reached, accepted, showsSignature, givesClass, Shown, nothing, signature, both, seen, adds, shown}
 use Rattle.statements.specs.Reached.{cold-table}
 use Rattle.history.specs.Lent.{ranOn, cellsReached}

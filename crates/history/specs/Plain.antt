@@ -37,7 +37,7 @@ use Rattle.table.specs.WellMade.{illMade}
 use Rattle.table.specs.declared.form.Table.{Table}
 use Rattle.table.specs.declared.form.Ticked.{Ticked}
 use Rattle.block.specs.Digest.{detectionOf, classingOf, digest}
-use Rattle.tick.specs.Tick.{movedAt, flagsReserved, tickRefusals, tick}
+use Rattle.passes.specs.Tick.{movedAt, flagsReserved, tickRefusals, tick}
 use Rattle.statements.specs.History.{ticked, accepted, isValid, isClass, showsSignature, givesClass, Shown, nothing, signature, both, seen, adds}
 use Rattle.history.specs.Spelled.{Bytes}
 

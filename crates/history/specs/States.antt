@@ -19,7 +19,7 @@ use Rattle.table.specs.declared.form.Table.{Table}
 use Rattle.cells.specs.Cells.{portOf}
 use Rattle.cells.specs.Codes.{stateOf}
 use Rattle.cells.specs.Laws.{table-at}
-use Rattle.ipaqsuni.specs.Laws.{Are}
+use Rattle.interface.specs.Laws.{Are}
 
 over-eight : (n : ℕ) → 9 ≤ n → stateOf n ≡ TestError
 over-eight n h =

@@ -13,7 +13,7 @@ use table::form::Closed;
 use tick::tick;
 ghost use mathlib.Core.Path.{_≡_};
 ghost use Prim.Native.Nat.{_+_, _-_, _≤_, min};
-ghost use Rattle.tick.specs.OnCells.{tickOn};
+ghost use Rattle.passes.specs.OnCells.{tickOn};
 ghost use Rattle.statements.specs.History.{ticked, accepted};
 ghost use Rattle.history.specs.Decode.{callOf, callsOf};
 ghost use Rattle.history.specs.Lent.{cellsAfter, ranOn, cellsReached};

@@ -3,11 +3,11 @@
 use mathlib.Core.Path.{_≡_, refl}
 use mathlib.Core.Bool.{Bool, true, false, cond, _||_}
 use mathlib.Core.List.{List}
-use Prim.Native.Nat.{ℕ, _≤_, _<_, _^_}
+use Prim.Native.Nat.{ℕ, _<_, _^_}
 use native.Mathlib.Omega.{arith}
 use lib.Dec.{eqb, ltb}
 use lib.ListN.{getD}
-use borrow.Author.Tests.{le-ltb, ltb-false}
+use borrow.Author.Tests.{ltb-false}
 use Rattle.lists.specs.Bits.{field}
 use Rattle.lists.specs.Ladder.{ladder-value}
 use Rattle.fields.specs.Fields.{outside, badValues}
@@ -18,8 +18,9 @@ use Rattle.fields.specs.declared.Fields.{Fields}
 use Rattle.fields.specs.declared.Form.the-variants.{Short, Long}
 use Rattle.reader.specs.declared.Taken.the-variants.{Is as Took, Refused as NotTaken}
 use Rattle.writer.specs.declared.Written.the-variants.{Is as Wrote, Refused as NotWritten}
+use Rattle.numbers.specs.Numbers.{noForm, noFields}
 use Rattle.ipaqsuni.specs.Outcome.{refused, accepted}
-use Rattle.ipaqsuni.specs.Tlv.{Narrow, noForm, noFields, fieldsGiven, writeCall}
+use Rattle.ipaqsuni.specs.Tlv.{Narrow, fieldsGiven, writeCall}
 
 neither : (a b : Bool) → (a || b) ≡ false → (a ≡ false) × (b ≡ false)
 neither true b e = let z : _≡_ {A = ℕ} 0 1 = cc in absurd (omega arith)
@@ -36,11 +37,6 @@ octets n e =
     let b = ltb-false 255 (getD n 2 0) (j .0) in
     let c = ltb-false 255 (getD n 3 0) (j .1) in
     (omega arith, omega arith, omega arith)
-
--- once the form and two octets are looked at, the third decides
-pub third : (n : List ℕ) → noForm (getD n 0 0) ≡ false → getD n 1 0 ≤ 255 → getD n 2 0 ≤ 255 → ltb 255 (getD n 3 0) ≡ noFields n
-unfolding noFields
-third n e h k = simp (e, le-ltb _ _ h, le-ltb _ _ k)
 
 inside : (v : ℕ) → outside v ≡ false → v < 2 ^ 32
 unfolding outside

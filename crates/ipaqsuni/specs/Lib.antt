@@ -1,6 +1,3 @@
 pub mod Outcome
 pub mod Calls
 pub mod Tlv
-pub mod Laws
-pub mod Unique
-pub mod Statement1C

@@ -1,9 +1,8 @@
 -- The calls on a PDU and on a power TLV, whose fields are nine numbers: form (7 or 12), support, pair, class, type, source, priority,
 -- requested, allocated (the last five 0 for form 7).
 use Prim.Native.Nat.{ℕ, _<_, _^_}
-use mathlib.Core.Bool.{Bool, cond, _||_, not}
+use mathlib.Core.Bool.{cond}
 use mathlib.Core.List.{List, [], _∷_}
-use lib.Dec.{eqb, ltb}
 use lib.ListN.{getD}
 use Rattle.reader.specs.Read.{readOf}
 use Rattle.search.specs.Search.{searchOf}
@@ -17,6 +16,7 @@ use Rattle.search.specs.declared.Searched.{Searched}
 use Rattle.search.specs.declared.Searched.the-variants.{Is as Found, Refused as NotFound}
 use Rattle.writer.specs.declared.Written.{Written}
 use Rattle.writer.specs.declared.Written.the-variants.{Is as Wrote, Refused as NotWritten}
+use Rattle.numbers.specs.Numbers.{noFields, formGiven}
 use Rattle.ipaqsuni.specs.Outcome.{Outcome, refused, accepted}
 
 -- the part of a PDU that is its power TLV
@@ -66,20 +66,7 @@ abbrev pub Narrow : Form → Type 0
 Narrow Short = Unit
 Narrow (Long a) = (a .kind < 2 ^ 32) × (a .source < 2 ^ 32) × (a .priority < 2 ^ 32) × (a .requested < 2 ^ 32) × (a .allocated < 2 ^ 32)
 
--- include/ipaqsuni.h: "a form other than 7 and 12"
-unfoldable pub noForm : ℕ → Bool
-noForm form = not (eqb form 7 || eqb form 12)
-
--- refusal 3 of the interface: a form other than 7 and 12, or one of the three octets over 255
-unfoldable pub noFields : List ℕ → Bool
-noFields n = noForm (getD n 0 0) || (ltb 255 (getD n 1 0) || (ltb 255 (getD n 2 0) || ltb 255 (getD n 3 0)))
-
--- nine numbers as a TLV's fields; form 7 has no more than its three octets
-unfoldable pub formGiven : List ℕ → Form
-formGiven n =
-    cond (eqb (getD n 0 0) 7) Short
-    (Long (record { kind = getD n 4 0; source = getD n 5 0; priority = getD n 6 0; requested = getD n 7 0; allocated = getD n 8 0 }))
-
+-- nine numbers as a TLV's fields
 unfoldable pub fieldsGiven : List ℕ → Fields
 fieldsGiven n = record { support = getD n 1 0; pair = getD n 2 0; class = getD n 3 0; form = formGiven n }
 

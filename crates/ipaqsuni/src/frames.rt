@@ -1,15 +1,17 @@
 // The calls on a PDU and on a power TLV, whose fields are nine numbers.
-use fields::Added;
 use fields::Fields;
 use fields::Form;
+use numbers::form_given;
+use numbers::no_fields;
 use reader::Taken;
 use search::Searched;
 use writer::Written;
 ghost use mathlib.Core.Path.{_≡_};
 ghost use mathlib.Core.Bool.{false};
 ghost use Prim.Native.Nat.{_<_};
+ghost use Rattle.numbers.specs.Numbers.{noFields};
 ghost use Rattle.ipaqsuni.specs.Outcome.{numberOf, leaves};
-ghost use Rattle.ipaqsuni.specs.Tlv.{findCall, offsetFound, sizeFound, readCall, numbersOf, Narrow, noForm, noFields, formGiven, fieldsGiven, writeCall, roomWritten, sizeWritten};
+ghost use Rattle.ipaqsuni.specs.Tlv.{findCall, offsetFound, sizeFound, readCall, numbersOf, Narrow, fieldsGiven, writeCall, roomWritten, sizeWritten};
 
 #[no_mangle]
 pub extern "C" fn ipaqsuni_find_power_tlv(pdu: &[u8], offset: &mut u64, length: &mut u64) -> u32
@@ -65,57 +67,11 @@ pub extern "C" fn ipaqsuni_read_power_tlv(tlv: &[u8], fields: &mut [u32; 9]) -> 
     }
 }
 
-fn no_form(form: u32) -> bool
-    ensures { λ r. ⌜ r ≡ noForm form ⌝ }
-{
-    if form == 7 {
-        return false;
-    }
-    form != 12
-}
-
-// Refusal 3 of the form and the octets.
-fn no_fields(numbers: &[u32; 9]) -> bool
-    ensures { λ r. ⌜ r ≡ noFields (now (numbers .entry)) ⌝ }
-{
-    if no_form(numbers[0]) {
-        return true;
-    }
-    if 255 < numbers[1] {
-        return true;
-    }
-    if 255 < numbers[2] {
-        return true;
-    }
-    255 < numbers[3]
-}
-
-fn wide(number: u32) -> u64
-    ensures { λ r. ⌜ r ≡ number ⌝ }
-{
-    number as u64
-}
-
 fn octet(number: u32) -> u8
     requires { ⌜ number < 256 ⌝ }
     ensures { λ r. ⌜ r ≡ number ⌝ }
 {
     number as u8
-}
-
-fn form_given(numbers: &[u32; 9]) -> Form
-    ensures { λ r. ⌜ r ≡ formGiven (now (numbers .entry)) ⌝ }
-{
-    if numbers[0] == 7 {
-        return Form::Short;
-    }
-    Form::Long(Added {
-        kind: wide(numbers[4]),
-        source: wide(numbers[5]),
-        priority: wide(numbers[6]),
-        requested: wide(numbers[7]),
-        allocated: wide(numbers[8]),
-    })
 }
 
 fn fields_given(numbers: &[u32; 9]) -> Fields

@@ -1,15 +1,15 @@
 // The calls on a table that the caller lends as cells, and its image. The core changes the cells where they stand; here its answer becomes
 // a number.
-use image::load::load;
-use image::store::imageable;
-use image::store::store;
+use load::load;
+use store::imageable;
+use store::store;
 use table::form::Answer;
 use table::form::Closed;
 use table::form::Status;
 ghost use mathlib.Core.Path.{_≡_};
 ghost use Rattle.cells.specs.Lent.{cellsTold, cellsRead, cellsTicked, cellsCold};
-ghost use Rattle.calls.specs.OnCells.{startOn, controlOn, statusOn, requestOn};
-ghost use Rattle.tick.specs.OnCells.{tickOn};
+ghost use Rattle.replies.specs.OnCells.{startOn, controlOn, statusOn, requestOn};
+ghost use Rattle.passes.specs.OnCells.{tickOn};
 ghost use Rattle.image.specs.Image.{roomAfter};
 ghost use Rattle.image.specs.Load.{cellsRestored};
 ghost use Rattle.ipaqsuni.specs.Calls.{answerNumber, statusNumber, wordLeft, tickNumber, maskALeft, maskBLeft, closedLeft, saveNumber, restoreNumber};

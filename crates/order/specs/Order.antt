@@ -21,12 +21,12 @@ use Rattle.table.specs.Form.{portAt}
 use Rattle.table.specs.WellMade.{illMade}
 use Rattle.cells.specs.Cells.{tableOf, isTable}
 use Rattle.cells.specs.CodeLaws.{disabled-code, power-on-code}
-use Rattle.calls.specs.Calls.{sameAlternative, granting, overSupply}
-use Rattle.calls.specs.OnLaws.{AtPort, state-at, control-at, demand-at, class-at}
+use Rattle.replies.specs.Calls.{sameAlternative, granting, overSupply}
+use Rattle.replies.specs.OnLaws.{AtPort, state-at, control-at, demand-at, class-at}
 use Rattle.well.specs.Judged.{wellCells}
 use Rattle.well.specs.Laws.{WellCells, cells-of}
 use Rattle.ill.specs.Ill.{illCells, ill-is}
-use Rattle.ipaqsuni.specs.Statement1C.{firstNumber}
+use Rattle.interface.specs.Statement1C.{firstNumber}
 
 module _ (l : List ℕ) (rs : List (ℕ × Bool)) where
   -- 13, for the one reason or the other

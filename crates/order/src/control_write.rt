@@ -2,7 +2,7 @@
 use ill::bad_word;
 use ill::ill_made;
 ghost use mathlib.Core.Path.{_≡_};
-ghost use Rattle.ipaqsuni.specs.Statement1C.{firstNumber, controlList};
+ghost use Rattle.interface.specs.Statement1C.{firstNumber, controlList};
 
 // "Control word: 2, 3, 5."; "A write that changes the alternative of a port not in DISABLED is refused with 5."
 pub fn control_number(cells: &[u16], port: u64, word: u64) -> u8

@@ -8,9 +8,9 @@ ghost use Rattle.port.specs.States.{closed};
 ghost use Rattle.table.specs.Drawn.{closedSum};
 ghost use Rattle.cells.specs.Cells.{tableOf};
 ghost use Rattle.cells.specs.Codes.{stateOf};
-ghost use Rattle.calls.specs.Calls.{granting, levelOf};
-ghost use Rattle.calls.specs.OnLaws.{AtPort};
-ghost use Rattle.ipaqsuni.specs.Statement1C.{firstNumber, requestList};
+ghost use Rattle.replies.specs.Calls.{granting, levelOf};
+ghost use Rattle.replies.specs.OnLaws.{AtPort};
+ghost use Rattle.interface.specs.Statement1C.{firstNumber, requestList};
 
 // "Budgets for classes 0 to 4: 154, 40, 70, 154, 300".
 const BUDGETS: [u16; 5] = [154, 40, 70, 154, 300];

@@ -5,7 +5,7 @@ ghost use Prim.Native.Nat.{_*_, _<_};
 ghost use lib.ListN.{length};
 ghost use Rattle.lists.specs.Every.{someBelow};
 ghost use Rattle.sample.specs.Sample.{sampleAt, reservedFlags};
-ghost use Rattle.ipaqsuni.specs.Statement1C.{firstNumber, tickList};
+ghost use Rattle.interface.specs.Statement1C.{firstNumber, tickList};
 
 fn wide(byte: u8) -> u64
     ensures { λ r. ⌜ (r ≡ byte) × (r < 256) ⌝ }

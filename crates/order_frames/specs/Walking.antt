@@ -14,7 +14,7 @@ use Rattle.search.specs.Search.{isCut, powers, powersIn, searchRefusals}
 use Rattle.walk.specs.Walk.{stepOf, Walk, ended, cut, tlv, walkFrom}
 use Rattle.walk.specs.Walked.{walk-ended, walk-cut, walk-tlv}
 use Rattle.walk.specs.declared.Step.the-variants.{End, Cut, Tlv}
-use Rattle.ipaqsuni.specs.Statement1C.{firstNumber}
+use Rattle.interface.specs.Statement1C.{firstNumber}
 
 -- "8, 7": of so many power TLVs
 unfoldable pub countedNumber : ℕ → ℕ

@@ -12,7 +12,7 @@ ghost use Rattle.header.specs.Header.{wordAt, sizeAt, isPower};
 ghost use Rattle.reader.specs.Read.{readRefusals};
 ghost use Rattle.search.specs.Search.{searchRefusals};
 ghost use Rattle.writer.specs.Write.{writeRefusals};
-ghost use Rattle.ipaqsuni.specs.Statement1C.{firstNumber};
+ghost use Rattle.interface.specs.Statement1C.{firstNumber};
 ghost use Rattle.order_frames.specs.Walking.{countedNumber};
 
 fn wide(byte: u8) -> usize

@@ -20,11 +20,11 @@ use Rattle.port.specs.declared.form.Port.{Port}
 use Rattle.port.specs.declared.form.State.{State}
 use Rattle.port.specs.declared.form.State.the-variants.{Disabled, Idle, Detecting, Backoff, Classifying, PowerUp, PowerOn, ErrorDelay, TestMode, TestError}
 use Rattle.port.specs.States.{condition}
-use Rattle.calls.specs.Calls.{coldPort, coldTable, coldStart, sameAlternative, withControl, writeControl, unlatched, statusAt, readStatus, levelOf, demanding, overSupply, request}
+use Rattle.replies.specs.Calls.{coldPort, coldTable, coldStart, sameAlternative, withControl, writeControl, unlatched, statusAt, readStatus, levelOf, demanding, overSupply, request}
 use Rattle.table.specs.Drawn.{draws, closedSum}
 use Rattle.table.specs.Form.{zeroCounts, portAt, withPort, done, refuse, tells, refuseStatus, refuseTick}
 use Rattle.boards.specs.Masks.{answered}
-use Rattle.tick.specs.Tick.{tick, flagsReserved}
+use Rattle.passes.specs.Tick.{tick, flagsReserved}
 use Rattle.table.specs.WellMade.{illPort, illMade, wellMade}
 use Rattle.table.specs.declared.form.Answer.the-variants.{Done}
 use Rattle.table.specs.declared.form.Status.the-variants.{Word}

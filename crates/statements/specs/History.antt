@@ -12,9 +12,9 @@ use Rattle.sample.specs.declared.Sample.{Sample}
 use Rattle.signature.specs.declared.Signature.{Signature}
 use Rattle.signature.specs.declared.Signature.the-variants.{Valid, Invalid, Open}
 use Rattle.port.specs.States.{isIdle}
-use Rattle.calls.specs.Calls.{coldStart, writeControl, readStatus, request}
+use Rattle.replies.specs.Calls.{coldStart, writeControl, readStatus, request}
 use Rattle.table.specs.Form.{portAt}
-use Rattle.tick.specs.Tick.{tick}
+use Rattle.passes.specs.Tick.{tick}
 use Rattle.table.specs.declared.form.Closed.{Closed}
 use Rattle.table.specs.declared.form.Closed.the-variants.{Ports, Refused}
 use Rattle.table.specs.declared.form.Table.{Table}

@@ -18,17 +18,17 @@ use Rattle.sample.specs.Sample.{sampleAt}
 use Rattle.control.specs.Control.{refused}
 use Rattle.port.specs.States.{closed}
 use Rattle.port.specs.declared.form.Port.{Port}
-use Rattle.diagram.specs.Open.{open-stays}
+use Rattle.outcomes.specs.Open.{open-stays}
 use Rattle.boards.specs.Sharing.{tableAfter}
 use Rattle.boards.specs.Well.{after-well}
 use Rattle.table.specs.declared.form.Table.{Table}
-use Rattle.calls.specs.Calls.{coldPort, coldTable, withControl, unlatched, demanding}
+use Rattle.replies.specs.Calls.{coldPort, coldTable, withControl, unlatched, demanding}
 use Rattle.block.specs.Digest.{digest}
-use Rattle.tick.specs.Tick.{movedAt}
+use Rattle.passes.specs.Tick.{movedAt}
 use Rattle.table.specs.Form.{noPort, portAt, withPort}
 use Rattle.table.specs.Well.{Well, well-of, WellTable, table-of, table-test}
 use Rattle.table.specs.WellMade.{illPort, wellPort, wellMade}
-use Rattle.tick.specs.Wells.{digest-well, step-well}
+use Rattle.passes.specs.Wells.{digest-well, step-well}
 
 -- ---- the tick
 pub tick-well : (t : Table) (block : List ℕ) (supply : Power) → wellMade t ≡ true → atMost supply highestSupply ≡ true → wellMade (tableAfter t (movedAt t block) supply) ≡ true

@@ -18,7 +18,7 @@ use Rattle.diagram.specs.Step.{step}
 use Rattle.port.specs.declared.form.Port.{Port}
 use Rattle.port.specs.declared.form.State.{State}
 use Rattle.port.specs.States.{isIdle}
-use Rattle.calls.specs.Calls.{coldPort, coldTable, coldStart, withControl, controlRefusals, writeControl, unlatched, statusRefusals, statusAt, readStatus, levelOf, demanding, requestRefusals, request}
+use Rattle.replies.specs.Calls.{coldPort, coldTable, coldStart, withControl, controlRefusals, writeControl, unlatched, statusRefusals, statusAt, readStatus, levelOf, demanding, requestRefusals, request}
 use Rattle.block.specs.Digest.{digest}
 use Rattle.table.specs.Form.{noPort, portAt, withPort, done, refuse, tells, refuseStatus, refuseTick}
 use Rattle.statements.specs.Kept.{tick-well, controlled-well, unlatched-well, demanding-well, cold-well}
@@ -26,7 +26,7 @@ use Rattle.table.specs.Laws.{well-count}
 use Rattle.boards.specs.Laws.{count-after, port-here}
 use Rattle.boards.specs.Sharing.{rankAt, keptAt, settledAt, tableAfter}
 use Rattle.boards.specs.Masks.{answered}
-use Rattle.tick.specs.Tick.{movedAt, tickRefusals, tick}
+use Rattle.passes.specs.Tick.{movedAt, tickRefusals, tick}
 use Rattle.table.specs.WellMade.{wellMade}
 use Rattle.table.specs.declared.form.Table.{Table}
 use Rattle.table.specs.declared.form.StatusRead.{StatusRead}

@@ -22,7 +22,7 @@ use Rattle.port.specs.Form.{quietly}
 use Rattle.port.specs.States.{inTest, isIdle}
 use Rattle.share.specs.Share.{noClaim}
 use Rattle.settling.specs.Settle.{granted, shed, settled}
-use Rattle.diagram.specs.Outcomes.{faulted, step-outcome}
+use Rattle.outcomes.specs.Outcomes.{faulted, step-outcome}
 use Rattle.diagram.specs.Step.{byState, step}
 use Rattle.port.specs.declared.form.Classing.the-variants.{NotDone as NotClassed, Is as Classed}
 use Rattle.port.specs.declared.form.Detection.the-variants.{NotDone, Valid}

@@ -9,10 +9,10 @@ use mathlib.Core.List.{List}
 use mathlib.Core.Logic.{⊎-elim}
 use native.Mathlib.Omega.{arith}
 use Rattle.lists.specs.Ladder.{ladder, ladder-holds, ladder-part}
-use Rattle.calls.specs.Calls.{coldTable, coldRefusals, coldStart, controlRefusals, writeControl, statusRefusals, statusAt, readStatus, requestRefusals, request}
+use Rattle.replies.specs.Calls.{coldTable, coldRefusals, coldStart, controlRefusals, writeControl, statusRefusals, statusAt, readStatus, requestRefusals, request}
 use Rattle.table.specs.Form.{done, refuse, tells, refuseStatus, refuseTick}
 use Rattle.boards.specs.Masks.{answered}
-use Rattle.tick.specs.Tick.{tickRefusals, tick}
+use Rattle.passes.specs.Tick.{tickRefusals, tick}
 use Rattle.table.specs.declared.form.Answer.{Answer}
 use Rattle.table.specs.declared.form.Answer.the-variants.{Done, Refused}
 use Rattle.table.specs.declared.form.Closed.{Closed}

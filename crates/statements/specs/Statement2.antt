@@ -26,7 +26,7 @@ use Rattle.share.specs.Share.{claims, before, keeps, keptSum}
 use Rattle.share.specs.Walk.{walked, isIn}
 use Rattle.share.specs.WalkLaws.{walk-keeps}
 use Rattle.status.specs.Status.{join}
-use Rattle.diagram.specs.Latched.{latches-told}
+use Rattle.outcomes.specs.Latched.{latches-told}
 use Rattle.block.specs.Digest.{digest}
 use Rattle.table.specs.Form.{portAt}
 use Rattle.boards.specs.MaskLaws.{bits-a, bits-b, past-a, past-b, closed-number}
@@ -36,7 +36,7 @@ use Rattle.boards.specs.Laws.{Tells, count-after, supply-after, rank-here, rank
 use Rattle.boards.specs.Sharing.{rankAt, claimAt, keptAt, settledAt, latchedAt, tableAfter}
 use Rattle.boards.specs.Masks.{namesA, namesB, maskA, maskB, answered}
 use Rattle.table.specs.Drawn.{closedAt}
-use Rattle.tick.specs.Tick.{movedAt, tick}
+use Rattle.passes.specs.Tick.{movedAt, tick}
 use Rattle.table.specs.WellMade.{wellMade}
 use Rattle.table.specs.declared.form.Closed.{Closed}
 use Rattle.table.specs.declared.form.Closed.the-variants.{Ports}

@@ -19,7 +19,7 @@ use Rattle.table.specs.Drawn.{closedSum, closedAt}
 use Rattle.table.specs.Form.{portAt}
 use Rattle.table.specs.Laws.{well-count}
 use Rattle.boards.specs.Sharing.{tableAfter}
-use Rattle.tick.specs.Tick.{movedAt, tick}
+use Rattle.passes.specs.Tick.{movedAt, tick}
 use Rattle.table.specs.declared.form.Table.{Table}
 use Rattle.statements.specs.History.{Call, ticked, after, reached, accepted, Shown, nothing, signature, both, shown}
 use Rattle.statements.specs.Reached.{Stopped, Ran, tick-told, reached-well, reached-needs}

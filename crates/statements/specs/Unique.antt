@@ -48,12 +48,12 @@ use Rattle.table.specs.declared.form.Status.{Status}
 use Rattle.cells.specs.Codes.{stateOf, latchesOf, latchByte}
 use Rattle.cells.specs.Lent.{cellsTold, cellsRead, cellsTicked, cellsCold}
 use Rattle.well.specs.Judged.{headCells, wellCells}
-use Rattle.calls.specs.OnCells.{startOn, controlOn, statusOn, requestOn}
+use Rattle.replies.specs.OnCells.{startOn, controlOn, statusOn, requestOn}
 use Rattle.block.specs.Digest.{digest}
 use Rattle.block.specs.Flags.{flagsClean, flagsLaid}
 use Rattle.claims.specs.Claimed.{wantedIn, claimsIn}
 use Rattle.tally.specs.Tally.{drawnIn, closedIn, sidesIn}
-use Rattle.tick.specs.OnCells.{tickOn}
+use Rattle.passes.specs.OnCells.{tickOn}
 use Rattle.image.specs.Image.{imageable, saves, roomAfter as imageAfter}
 use Rattle.image.specs.Load.{restores, cellsRestored}
 use Rattle.header.specs.Header.{wordAt, typeAt, lengthAt, isPower}
@@ -62,6 +62,7 @@ use Rattle.reader.specs.Read.{readOf}
 use Rattle.search.specs.Search.{searchOf}
 use Rattle.walk.specs.Walk.{stepOf}
 use Rattle.writer.specs.Write.{writtenOf, roomAfter}
+use Rattle.numbers.specs.Numbers.{noFields, formGiven}
 use Rattle.fields.specs.declared.Fields.{Fields}
 use Rattle.fields.specs.declared.Form.{Form}
 use Rattle.reader.specs.declared.Taken.{Taken}
@@ -154,9 +155,11 @@ pub record Unique : Type 0 where
   pub walk-here : (w : Walker) → One Step (λ s. s ≡ stepOf (w .pdu) (w .at))
   pub walk-tlv-at : (pdu : List ℕ) (at : ℕ) → One Step (λ s. s ≡ stepOf pdu at)
   pub writer-write : (f : Fields) (room : List ℕ) → OneWith Written (List ℕ) (λ r room'. (r ≡ writtenOf f room) × (room' ≡ roomAfter f room))
-  pub image-load-load : (bytes cells : List ℕ) → OneWith Bool (List ℕ) (λ r cells'. (r ≡ restores bytes cells) × (cells' ≡ cellsRestored bytes cells))
-  pub image-store-imageable : (cells : List ℕ) → One Bool (λ r. r ≡ imageable cells)
-  pub image-store-store : (cells room : List ℕ) → OneWith Bool (List ℕ) (λ r room'. (r ≡ saves cells room) × (room' ≡ imageAfter cells room))
+  pub numbers-no-fields : (numbers : List ℕ) → One Bool (λ r. r ≡ noFields numbers)
+  pub numbers-form-given : (numbers : List ℕ) → One Form (λ r. r ≡ formGiven numbers)
+  pub load-load : (bytes cells : List ℕ) → OneWith Bool (List ℕ) (λ r cells'. (r ≡ restores bytes cells) × (cells' ≡ cellsRestored bytes cells))
+  pub store-imageable : (cells : List ℕ) → One Bool (λ r. r ≡ imageable cells)
+  pub store-store : (cells room : List ℕ) → OneWith Bool (List ℕ) (λ r room'. (r ≡ saves cells room) × (room' ≡ imageAfter cells room))
 
 one : (A : Type 0) (d : A) → One A (λ r. r ≡ d)
 one A d r s p q = p ∙ sym q
@@ -238,8 +241,10 @@ unique =
       walk-new = λ pdu at. walker pdu at;
       walk-here = λ w. one Step (stepOf (w .pdu) (w .at));
       walk-tlv-at = λ pdu at. one Step (stepOf pdu at);
-      image-load-load = λ bytes cells. with-room Bool (List ℕ) (restores bytes cells) (cellsRestored bytes cells);
-      image-store-imageable = λ cells. one Bool (imageable cells);
-      image-store-store = λ cells room. with-room Bool (List ℕ) (saves cells room) (imageAfter cells room);
+      load-load = λ bytes cells. with-room Bool (List ℕ) (restores bytes cells) (cellsRestored bytes cells);
+      store-imageable = λ cells. one Bool (imageable cells);
+      store-store = λ cells room. with-room Bool (List ℕ) (saves cells room) (imageAfter cells room);
       writer-write = λ f room. with-room Written (List ℕ) (writtenOf f room) (roomAfter f room);
+      numbers-no-fields = λ numbers. one Bool (noFields numbers);
+      numbers-form-given = λ numbers. one Form (formGiven numbers);
     }

@@ -23,13 +23,13 @@ use Rattle.diagram.specs.Rules.{idle, detected, detecting, classed, classifying
 use Rattle.settling.specs.Settle.{rank, granted, shed, settled}
 use Rattle.diagram.specs.Step.{byState, step}
 use Rattle.share.specs.Share.{claims, before, met, sumWhere, down, keeps}
-use Rattle.calls.specs.Calls.{coldTable, coldStart, sameAlternative, writeControl, withControl}
+use Rattle.replies.specs.Calls.{coldTable, coldStart, sameAlternative, writeControl, withControl}
 use Rattle.table.specs.Drawn.{draws, closedSum, closedAt}
 use Rattle.block.specs.Digest.{digest}
 use Rattle.table.specs.Form.{portAt, withPort, done}
 use Rattle.boards.specs.Sharing.{rankAt, claimAt, keptAt, settledAt, portAfter, tableAfter}
 use Rattle.boards.specs.Masks.{answered}
-use Rattle.tick.specs.Tick.{movedAt, tick, flagsReserved}
+use Rattle.passes.specs.Tick.{movedAt, tick, flagsReserved}
 use Rattle.table.specs.declared.form.Table.{Table}
 use Rattle.table.specs.WellMade.{illPort, illMade}
 use Rattle.port.specs.States.{isIdle}

@@ -27,14 +27,14 @@ use Rattle.diagram.specs.Step.{byState, step}
 use Rattle.port.specs.declared.form.Port.{Port}
 use Rattle.port.specs.declared.form.State.the-variants.{Classifying}
 use Rattle.share.specs.Share.{claims, before, met, sumWhere, down, keeps}
-use Rattle.calls.specs.Calls.{coldPort}
+use Rattle.replies.specs.Calls.{coldPort}
 use Rattle.block.specs.Digest.{digest}
 use Rattle.table.specs.Form.{portAt, zeroCounts}
 use Rattle.boards.specs.MaskLaws.{closed-number}
 use Rattle.boards.specs.Sharing.{rankAt, claimAt, keptAt}
 use Rattle.boards.specs.Masks.{namesA}
 use Rattle.table.specs.Drawn.{closedAt}
-use Rattle.tick.specs.Tick.{movedAt, tickRefusals, flagsReserved}
+use Rattle.passes.specs.Tick.{movedAt, tickRefusals, flagsReserved}
 use Rattle.table.specs.WellMade.{illPort, illMade, wellMade}
 use Rattle.table.specs.declared.form.Closed.{Closed}
 use Rattle.table.specs.declared.form.Closed.the-variants.{Ports, Refused}

@@ -18,7 +18,7 @@ use Rattle.table.specs.Drawn.{closedAt, draws, closedSum}
 use Rattle.table.specs.Form.{portAt}
 use Rattle.table.specs.declared.form.Closed.{Closed}
 use Rattle.table.specs.declared.form.Table.{Table}
-use Rattle.ipaqsuni.specs.Laws.{Are}
+use Rattle.interface.specs.Laws.{Are}
 use Rattle.statements.specs.History.{accepted, Shown, nothing, signature, both}
 use Rattle.history.specs.MarkLaws.{markOf}
 use Rattle.history.specs.States.{test-cell, demand-cell}

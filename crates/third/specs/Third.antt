@@ -20,9 +20,9 @@ use Rattle.table.specs.declared.form.Table.{Table}
 use Rattle.table.specs.declared.form.Ticked.{Ticked}
 use Rattle.boards.specs.MaskLaws.{closed-bits}
 use Rattle.boards.specs.Masks.{answered}
-use Rattle.tick.specs.OnCells.{tickOn}
-use Rattle.tick.specs.Tick.{flagsReserved, tick}
-use Rattle.ipaqsuni.specs.Laws.{Are}
+use Rattle.passes.specs.OnCells.{tickOn}
+use Rattle.passes.specs.Tick.{flagsReserved, tick}
+use Rattle.interface.specs.Laws.{Are}
 use Rattle.statements.specs.History.{Call, ticked, after, reached, accepted, both, shown}
 use Rattle.statements.specs.Reached.{reached-well, call-count, cold-table, cold-count}
 use Rattle.statements.specs.Statement2.{statement-2}

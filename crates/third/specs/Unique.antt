@@ -6,7 +6,7 @@ use mathlib.Core.Path.{_≡_, sym, _∙_, ap}
 use mathlib.Core.Bool.{Bool, cond}
 use mathlib.Core.List.{List}
 use Rattle.table.specs.declared.form.Closed.{Closed}
-use Rattle.tick.specs.OnCells.{tickOn}
+use Rattle.passes.specs.OnCells.{tickOn}
 use Rattle.verdict.specs.declared.Verdict.{Verdict}
 use Rattle.verdict.specs.declared.Verdict.the-variants.{Held, NotAsked}
 use Rattle.statements.specs.History.{ticked, accepted}

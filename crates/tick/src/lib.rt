@@ -20,9 +20,9 @@ ghost use Rattle.cells.specs.Cells.{countCell};
 ghost use Rattle.cells.specs.Laws.{Holds};
 ghost use Rattle.cells.specs.Lent.{cellsTicked};
 ghost use Rattle.well.specs.Judged.{wellCells};
-ghost use Rattle.tick.specs.OnCells.{tickOn};
+ghost use Rattle.passes.specs.OnCells.{tickOn};
 ghost use Rattle.block.specs.Flags.{flagLane};
-ghost use Rattle.tick.specs.Passes.{Classes, refusalOf, Ready, someAsk, movedOn, askedOn, sharedOn, movedCells, movedAnswer};
+ghost use Rattle.passes.specs.Passes.{Classes, refusalOf, Ready, someAsk, movedOn, askedOn, sharedOn, movedCells, movedAnswer};
 
 // The number of the refusal, 0 if nothing is refused: then the lane has the flags of every port. They are read before the ports are
 // tested, though looked at after: what was just written would have to be waited for.

@@ -16,7 +16,7 @@ ghost use Rattle.cells.specs.Cells.{portOf, written};
 ghost use Rattle.cells.specs.Laws.{Holds};
 ghost use Rattle.cells.specs.Writes.{withPortCells};
 ghost use Rattle.claims.specs.Claimed.{isSet};
-ghost use Rattle.tick.specs.Passes.{Classes, settledBy, admittedBy, sharedBy};
+ghost use Rattle.passes.specs.Passes.{Classes, settledBy, admittedBy, sharedBy};
 
 // Most ports stay as they moved: those without a claim, and those that are closed and kept.
 fn changes(rank: u8, kept: bool) -> bool

@@ -18,7 +18,7 @@ ghost use Rattle.cells.specs.Cells.{written};
 ghost use Rattle.cells.specs.Laws.{Holds};
 ghost use Rattle.cells.specs.Writes.{withPortCells};
 ghost use Rattle.claims.specs.Claimed.{isSet};
-ghost use Rattle.tick.specs.Passes.{Classes, wholeMove, markedMove, steppedPort, steppedLane};
+ghost use Rattle.passes.specs.Passes.{Classes, wholeMove, markedMove, steppedPort, steppedLane};
 
 // The sample of a port that the block has.
 fn sample(block: &[u8], port: usize) -> Sample

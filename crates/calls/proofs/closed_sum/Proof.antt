@@ -15,8 +15,8 @@ use Rattle.table.specs.Drawn.{draws, closedSum}
 use Rattle.table.specs.Form.{portAt, withPort}
 use Rattle.cells.specs.Cells.{countCell, tableOf}
 use Rattle.cells.specs.Codes.{stateOf}
-use Rattle.calls.specs.Calls.{granting}
-use Rattle.calls.specs.OnLaws.{draws-with}
+use Rattle.replies.specs.Calls.{granting}
+use Rattle.replies.specs.OnLaws.{draws-with}
 use Rattle.calls.proofs.closed_sum.Statement.{statement}
 use Rattle.calls.proofs.closed_sum.Tie as tie
 

@@ -1,6 +1,6 @@
 -- `cold_cell` is `coldCell`. Assumes nothing.
 use borrow.Author.Tests.{eq-eqb, ne-eqb}
-use Rattle.calls.specs.Cold.{coldCell}
+use Rattle.replies.specs.Cold.{coldCell}
 use Rattle.calls.proofs.cold_cell.Statement.{statement}
 use Rattle.calls.proofs.cold_cell.Tie as tie
 

@@ -7,8 +7,8 @@ use denote.Ref.{now}
 use Rattle.table.specs.Form.{done, refuse}
 use Rattle.cells.specs.Cells.{tableOf}
 use Rattle.cells.specs.LentLaws.{cold-refused, cold-done}
-use Rattle.calls.specs.Calls.{coldTable, coldStart}
-use Rattle.calls.specs.OnCells.{startOn}
+use Rattle.replies.specs.Calls.{coldTable, coldStart}
+use Rattle.replies.specs.OnCells.{startOn}
 use Rattle.calls.proofs.cold_start.Statement.{statement}
 use Rattle.calls.proofs.cold_start.Tie as tie
 

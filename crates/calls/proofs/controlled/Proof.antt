@@ -16,8 +16,8 @@ use Rattle.port.specs.declared.form.State.{State}
 use Rattle.table.specs.Form.{portAt, withPort, done, refuse}
 use Rattle.cells.specs.Cells.{tableOf}
 use Rattle.cells.specs.LentLaws.{told-refused, told-done}
-use Rattle.calls.specs.Calls.{sameAlternative, withControl}
-use Rattle.calls.specs.OnLaws.{controlRest, state-at, control-at, control-cell}
+use Rattle.replies.specs.Calls.{sameAlternative, withControl}
+use Rattle.replies.specs.OnLaws.{controlRest, state-at, control-at, control-cell}
 use Rattle.calls.proofs.controlled.Statement.{statement}
 use Rattle.calls.proofs.controlled.Tie as tie
 

@@ -6,7 +6,7 @@ use native.Mathlib.Omega.{arith}
 use borrow.Author.Needs.{needs}
 use denote.Ref.{now}
 use Rattle.lists.specs.Places.{Filled, filled-none, filled-more, filled-all}
-use Rattle.calls.specs.Cold.{coldCell, cold-cells}
+use Rattle.replies.specs.Cold.{coldCell, cold-cells}
 use Rattle.calls.proofs.fill.Statement.{statement}
 use Rattle.calls.proofs.fill.Tie as tie
 

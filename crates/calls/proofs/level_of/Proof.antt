@@ -2,7 +2,7 @@
 -- Assumes nothing.
 use borrow.Author.Needs.{needs}
 use borrow.Author.Tests.{le-leb, lt-leb}
-use Rattle.calls.specs.Calls.{levelOf}
+use Rattle.replies.specs.Calls.{levelOf}
 use Rattle.calls.proofs.level_of.Statement.{statement}
 use Rattle.calls.proofs.level_of.Tie as tie
 

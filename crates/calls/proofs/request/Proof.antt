@@ -12,8 +12,8 @@ use Rattle.cells.specs.Lent.{cellsTold}
 use Rattle.cells.specs.LentLaws.{told-refused}
 use Rattle.well.specs.Judged.{wellCells}
 use Rattle.well.specs.Laws.{cells-of}
-use Rattle.calls.specs.OnCells.{requestOn}
-use Rattle.calls.specs.OnLaws.{at-port, request-ill, request-no-port, request-goes}
+use Rattle.replies.specs.OnCells.{requestOn}
+use Rattle.replies.specs.OnLaws.{at-port, request-ill, request-no-port, request-goes}
 use Rattle.calls.proofs.request.Statement.{statement}
 use Rattle.calls.proofs.request.Tie as tie
 

@@ -15,8 +15,8 @@ use Rattle.table.specs.Laws.{over-is}
 use Rattle.cells.specs.Cells.{tableOf, cellsWith}
 use Rattle.cells.specs.CodeLaws.{power-on-code}
 use Rattle.cells.specs.LentLaws.{told-refused, told-done}
-use Rattle.calls.specs.Calls.{levelOf, granting, overSupply}
-use Rattle.calls.specs.OnLaws.{requestRest, state-at, class-at, demand-cell}
+use Rattle.replies.specs.Calls.{levelOf, granting, overSupply}
+use Rattle.replies.specs.OnLaws.{requestRest, state-at, class-at, demand-cell}
 use Rattle.calls.proofs.requested.Statement.{statement}
 use Rattle.calls.proofs.requested.Tie as tie
 

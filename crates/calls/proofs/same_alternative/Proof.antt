@@ -2,7 +2,7 @@
 -- Assumes nothing.
 use mathlib.Core.Path.{refl}
 use Rattle.lists.specs.Bits.{field}
-use Rattle.calls.specs.Calls.{sameAlternative}
+use Rattle.replies.specs.Calls.{sameAlternative}
 use Rattle.calls.proofs.same_alternative.Statement.{statement}
 use Rattle.calls.proofs.same_alternative.Tie as tie
 

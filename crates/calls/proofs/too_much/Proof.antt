@@ -8,8 +8,8 @@ use Rattle.power.specs.declared.Sum.{Sum}
 use Rattle.table.specs.Form.{portAt}
 use Rattle.table.specs.Laws.{over-is}
 use Rattle.cells.specs.Cells.{supplyCell, tableOf}
-use Rattle.calls.specs.Calls.{overSupply}
-use Rattle.calls.specs.OnLaws.{demand-at}
+use Rattle.replies.specs.Calls.{overSupply}
+use Rattle.replies.specs.OnLaws.{demand-at}
 use Rattle.calls.proofs.too_much.Statement.{statement}
 use Rattle.calls.proofs.too_much.Tie as tie
 

@@ -12,8 +12,8 @@ use Rattle.cells.specs.Lent.{cellsTold}
 use Rattle.cells.specs.LentLaws.{told-refused}
 use Rattle.well.specs.Judged.{wellCells}
 use Rattle.well.specs.Laws.{cells-of}
-use Rattle.calls.specs.OnCells.{controlOn}
-use Rattle.calls.specs.OnLaws.{at-port, control-ill, control-no-port, control-goes}
+use Rattle.replies.specs.OnCells.{controlOn}
+use Rattle.replies.specs.OnLaws.{at-port, control-ill, control-no-port, control-goes}
 use Rattle.calls.proofs.write_control.Statement.{statement}
 use Rattle.calls.proofs.write_control.Tie as tie
 

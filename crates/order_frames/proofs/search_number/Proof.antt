@@ -7,7 +7,7 @@ use lib.ListN.{length}
 use Rattle.search.specs.Search.{searchRefusals}
 use Rattle.walk.specs.Walk.{walkFrom}
 use Rattle.walk.specs.Walked.{past}
-use Rattle.ipaqsuni.specs.Statement1C.{firstNumber}
+use Rattle.interface.specs.Statement1C.{firstNumber}
 use Rattle.order_frames.specs.Headers.{size-is, lone, type-zero, too-long, whole-tlv}
 use Rattle.order_frames.specs.Walking.{outlook, looks, ends, breaks, goes-on}
 use borrow.Author.Needs.{needs}

@@ -13,8 +13,8 @@ use Rattle.lists.specs.Every.{someBelow}
 use Rattle.cells.specs.Cells.{written}
 use Rattle.quick.specs.Sweep.{sweptCells, sweptLane, sweptLeft}
 use Rattle.well.specs.Laws.{cells-of}
-use Rattle.tick.specs.Passes.{markedMove, steppedPort, steppedLane, someAsk, movedOn, askedOn}
-use Rattle.tick.specs.Ticking.{lane1-long, cells1-long, cells1-holds, cells1-classes}
+use Rattle.passes.specs.Passes.{markedMove, steppedPort, steppedLane, someAsk, movedOn, askedOn}
+use Rattle.passes.specs.Ticking.{lane1-long, cells1-long, cells1-holds, cells1-classes}
 use Rattle.tick.proofs.move_all.Statement.{statement}
 use Rattle.tick.proofs.move_all.Tie as tie
 

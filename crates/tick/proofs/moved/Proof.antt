@@ -13,10 +13,10 @@ use Rattle.cells.specs.Cells.{countCell, portOf, tableOf}
 use Rattle.well.specs.Laws.{cells-of}
 use Rattle.boards.specs.Laws.{count-after}
 use Rattle.boards.specs.Sharing.{tableAfter}
-use Rattle.tick.specs.Passes.{someAsk, movedOn, askedOn, sharedOn, movedAnswer}
+use Rattle.passes.specs.Passes.{someAsk, movedOn, askedOn, sharedOn, movedAnswer}
 use Rattle.tally.specs.Tally.{side-lane-answer, closed-in, sides-in, side-lane-long}
-use Rattle.tick.specs.Tick.{movedAt}
-use Rattle.tick.specs.Ticking.{lane-long, asked-long, cells2-long, cells2-holds, cells2-classes, stored-cells, stored-long, stored-port}
+use Rattle.passes.specs.Tick.{movedAt}
+use Rattle.passes.specs.Ticking.{lane-long, asked-long, cells2-long, cells2-holds, cells2-classes, stored-cells, stored-long, stored-port}
 use Rattle.tick.proofs.moved.Statement.{statement}
 use Rattle.tick.proofs.moved.Tie as tie
 

@@ -13,7 +13,7 @@ use Rattle.cells.specs.Cells.{countCell}
 use Rattle.well.specs.Judged.{headCells, wellCells, portFine}
 use Rattle.well.specs.Laws.{well-cells, head-long, head-count}
 use Rattle.block.specs.Flags.{flagsFine, fit-clean, fit-laid}
-use Rattle.tick.specs.Passes.{refusalOf}
+use Rattle.passes.specs.Passes.{refusalOf}
 use Rattle.tick.proofs.refusal.Statement.{statement}
 use Rattle.tick.proofs.refusal.Tie as tie
 

@@ -13,9 +13,9 @@ use Rattle.table.specs.declared.form.Ticked.{Ticked}
 use Rattle.cells.specs.Cells.{tableOf}
 use Rattle.cells.specs.Lent.{cellsTicked}
 use Rattle.boards.specs.Masks.{answered}
-use Rattle.tick.specs.Judging.{number, value, judged, clear, ready}
-use Rattle.tick.specs.OnCells.{tickOn}
-use Rattle.tick.specs.Passes.{movedAnswer, movedCells}
+use Rattle.passes.specs.Judging.{number, value, judged, clear, ready}
+use Rattle.passes.specs.OnCells.{tickOn}
+use Rattle.passes.specs.Passes.{movedAnswer, movedCells}
 use Rattle.tick.proofs.tick.Statement.{statement}
 use Rattle.tick.proofs.tick.Tie as tie
 

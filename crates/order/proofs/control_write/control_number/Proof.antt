@@ -7,9 +7,9 @@ use denote.Ref.{now}
 use lib.ListN.{drop}
 use Rattle.cells.specs.Cells.{tableOf}
 use Rattle.ill.specs.Ill.{illCells}
-use Rattle.ipaqsuni.specs.Statement1C.{firstNumber, controlList}
-use Rattle.calls.specs.Calls.{controlRefusals}
-use Rattle.calls.specs.OnLaws.{AtPort, at-port}
+use Rattle.interface.specs.Statement1C.{firstNumber, controlList}
+use Rattle.replies.specs.Calls.{controlRefusals}
+use Rattle.replies.specs.OnLaws.{AtPort, at-port}
 use Rattle.order.specs.Order.{ill-first, well-first, well-of, well-cells-of, alternative-at}
 use borrow.Author.Needs.{needs}
 use native.Mathlib.Omega.{arith}

@@ -13,8 +13,8 @@ use Rattle.table.specs.Drawn.{draws, closedSum}
 use Rattle.table.specs.Form.{portAt, withPort}
 use Rattle.cells.specs.Cells.{countCell, tableOf}
 use Rattle.cells.specs.Codes.{stateOf}
-use Rattle.calls.specs.Calls.{granting}
-use Rattle.calls.specs.OnLaws.{draws-with}
+use Rattle.replies.specs.Calls.{granting}
+use Rattle.replies.specs.OnLaws.{draws-with}
 use borrow.Author.Needs.{needs}
 use native.Mathlib.Omega.{arith}
 use Rattle.order.proofs.request.demands_with.Statement.{statement}

@@ -1,7 +1,7 @@
 -- `level` is `levelOf`: the value is past the limits before and within its own. Assumes nothing.
 use borrow.Author.Tests.{le-leb, lt-leb}
 use Rattle.class.specs.Class.{budgetOf}
-use Rattle.calls.specs.Calls.{levelOf}
+use Rattle.replies.specs.Calls.{levelOf}
 use Rattle.order.proofs.request.level.Statement.{statement}
 use Rattle.order.proofs.request.level.Tie as tie
 

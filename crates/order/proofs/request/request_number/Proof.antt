@@ -8,13 +8,13 @@ use denote.Ref.{now}
 use lib.ListN.{getD, drop}
 use Rattle.cells.specs.Cells.{tableOf}
 use Rattle.ill.specs.Ill.{illCells}
-use Rattle.ipaqsuni.specs.Statement1C.{firstNumber, requestList}
+use Rattle.interface.specs.Statement1C.{firstNumber, requestList}
 use Rattle.power.specs.Power.{tenths, over}
 use Rattle.class.specs.Class.{budgets, budgetOf}
 use Rattle.table.specs.Drawn.{closedSum}
 use Rattle.table.specs.Form.{portAt}
-use Rattle.calls.specs.Calls.{levelOf, granting, overSupply, requestRefusals}
-use Rattle.calls.specs.OnLaws.{AtPort, at-port}
+use Rattle.replies.specs.Calls.{levelOf, granting, overSupply, requestRefusals}
+use Rattle.replies.specs.OnLaws.{AtPort, at-port}
 use Rattle.order.specs.Order.{ill-first, well-first, well-of, well-cells-of, power-on-at, class-over, supply-over}
 use borrow.Author.Needs.{needs}
 use native.Mathlib.Omega.{arith}

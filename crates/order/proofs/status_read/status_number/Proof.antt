@@ -7,8 +7,8 @@ use denote.Ref.{now}
 use lib.ListN.{drop}
 use Rattle.cells.specs.Cells.{tableOf}
 use Rattle.ill.specs.Ill.{illCells}
-use Rattle.ipaqsuni.specs.Statement1C.{firstNumber, statusList}
-use Rattle.calls.specs.Calls.{statusRefusals}
+use Rattle.interface.specs.Statement1C.{firstNumber, statusList}
+use Rattle.replies.specs.Calls.{statusRefusals}
 use Rattle.order.specs.Order.{ill-first, well-first, well-cells-of}
 use borrow.Author.Needs.{needs}
 use native.Mathlib.Omega.{arith}

@@ -12,10 +12,10 @@ use Rattle.cells.specs.Cells.{portOf, written}
 use Rattle.cells.specs.Pass.{stage}
 use Rattle.cells.specs.Writes.{withPortCells}
 use Rattle.settling.specs.Claim.{settlingChanges, settledAs}
-use Rattle.tick.specs.Moving.{come-none, come-all, come-long, come-class, come-settled}
+use Rattle.passes.specs.Moving.{come-none, come-all, come-long, come-class, come-settled}
 use Rattle.share.specs.Share.{noClaim}
 use Rattle.claims.specs.Claimed.{isSet}
-use Rattle.tick.specs.Passes.{admittedBy}
+use Rattle.passes.specs.Passes.{admittedBy}
 use Rattle.tick.proofs.sharing.admit.Statement.{statement}
 use Rattle.tick.proofs.sharing.admit.Tie as tie
 

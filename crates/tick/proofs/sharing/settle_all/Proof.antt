@@ -9,8 +9,8 @@ use lib.ListN.{getD}
 use denote.Ref.{now}
 use Rattle.cells.specs.Cells.{portOf, written}
 use Rattle.cells.specs.Pass.{stage}
-use Rattle.tick.specs.Moving.{come-none, come-all, come-long, come-class, come-settled}
-use Rattle.tick.specs.Passes.{settledBy}
+use Rattle.passes.specs.Moving.{come-none, come-all, come-long, come-class, come-settled}
+use Rattle.passes.specs.Passes.{settledBy}
 use Rattle.tick.proofs.sharing.settle_all.Statement.{statement}
 use Rattle.tick.proofs.sharing.settle_all.Tie as tie
 

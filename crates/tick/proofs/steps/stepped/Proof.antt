@@ -9,7 +9,7 @@ use Rattle.port.specs.declared.form.Moved.{Moved}
 use Rattle.diagram.specs.Step.{step}
 use Rattle.cells.specs.Writes.{withPortCells}
 use Rattle.block.specs.Digest.{digest}
-use Rattle.tick.specs.Passes.{wholeMove, markedMove}
+use Rattle.passes.specs.Passes.{wholeMove, markedMove}
 use Rattle.tick.proofs.steps.stepped.Statement.{statement}
 use Rattle.tick.proofs.steps.stepped.Tie as tie
 

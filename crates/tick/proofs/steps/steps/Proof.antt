@@ -18,9 +18,9 @@ use Rattle.port.specs.declared.form.Moved.{Moved}
 use Rattle.cells.specs.Cells.{portOf, written}
 use Rattle.cells.specs.Pass.{stage}
 use Rattle.cells.specs.Writes.{withPortCells}
-use Rattle.tick.specs.Moving.{come-none, come-all, come-long, come-class, come-moved, come-stepped, come-over, filled-skip, some-skip}
+use Rattle.passes.specs.Moving.{come-none, come-all, come-long, come-class, come-moved, come-stepped, come-over, filled-skip, some-skip}
 use Rattle.claims.specs.Claimed.{isSet}
-use Rattle.tick.specs.Passes.{wholeMove, markedMove, steppedPort, steppedLane}
+use Rattle.passes.specs.Passes.{wholeMove, markedMove, steppedPort, steppedLane}
 use Rattle.tick.proofs.steps.steps.Statement.{statement}
 use Rattle.tick.proofs.steps.steps.Tie as tie
 

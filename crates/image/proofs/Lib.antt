@@ -1,3 +1,0 @@
-pub mod Restored
-pub mod Saved
-pub mod Written

@@ -1,0 +1,54 @@
+-- `put_port` writes `portIn`, field by field: a state and latches that read are their own codes.
+-- Assumes nothing.
+use mathlib.Core.Path.{_∙_, ap}
+use Prim.Native.Nat.{_+_}
+use native.Mathlib.Omega.{arith}
+use lib.ListN.{length, length-set}
+use borrow.Author.Needs.{needs}
+use Rattle.cells.specs.Writes.{writes, withPortCells, withCountCells}
+use Rattle.image.specs.Load.{portIn}
+use Rattle.load.proofs.Restored.{state-code, latch-code}
+use Rattle.load.proofs.put_port.Statement.{statement}
+use Rattle.load.proofs.put_port.Tie as tie
+
+pub put-port-spec : {M : Type 1} → statement M
+unfolding writes withPortCells withCountCells portIn
+put-port-spec =
+    tie.close
+    (tie.spec
+    (λ c. search needs)
+    (λ c. omega (arith, c .shared-slice-known2 .given (c .before .before .before .args .at)))
+    (λ c. search needs)
+    (λ c. search needs)
+    (λ c. search needs)
+    (λ c. search needs)
+    (λ c κs. search needs)
+    (λ c. search needs)
+    (λ c. search needs)
+    (λ c. simp length-set (omega arith))
+    (λ c. search needs)
+    (λ c κs. search needs)
+    (λ c. search needs)
+    (λ c. search needs)
+    (λ c. simp length-set (omega arith))
+    (λ c. search needs)
+    (λ c. search needs)
+    (λ c. omega (arith, c .shared-slice-known3 .given (c .before .before .before .before .before .before .args .at + 3)))
+    (λ c. search needs)
+    (λ c. search needs)
+    (λ c. simp length-set (omega arith))
+    (λ c. search needs)
+    (λ c. search needs)
+    (λ c. omega (arith, c .shared-slice-known4 .given (c .before .before .before .before .before .before .before .args .at + 6)))
+    (λ c. search needs)
+    (λ c. search needs)
+    (λ c. simp length-set (omega arith))
+    (λ c. search needs)
+    (λ c κs. (omega arith, (simp length-set (omega arith), omega arith)))
+    (λ c. ap length (c .before .before .put-counts .ensures) ∙ simp length-set)
+    (λ c.
+    let start = c .before .before .before .before .before .before .before .before .before .before .before in
+    let bytes = start .args .bytes .now in
+    let reads = start .pre .1 .0 in
+    c .before .before .put-counts .ensures
+    ∙ simp (c .before .before .before .before .before .before .before .word-at .ensures, c .before .before .before .before .before .before .word-at2 .ensures, state-code bytes (start .args .at) reads, latch-code bytes (start .args .at) reads)))

@@ -1,0 +1,3 @@
+pub mod Latched
+pub mod Open
+pub mod Outcomes
