@@ -1,0 +1,55 @@
+// Numbers that bytes are, big-endian. Past the last byte stands 0.
+ghost use Prim.Native.Nat.{_<_, _^_};
+
+fn wide(byte: u8) -> u64
+    ensures { λ r. ⌜ r < 256 ⌝ }
+{
+    byte as u64
+}
+
+fn byte_at(bytes: &[u8], at: usize) -> u64
+    ensures { λ r. ⌜ r < 256 ⌝ }
+{
+    if at < bytes.len() {
+        return wide(bytes[at]);
+    }
+    0
+}
+
+// Two bytes. No slice reaches to the last places that a number can name.
+pub fn word_at(bytes: &[u8], at: usize) -> u64
+    ensures { λ r. ⌜ r < 65536 ⌝ }
+{
+    if bytes.len() <= at {
+        return 0;
+    }
+    256 * byte_at(bytes, at) + byte_at(bytes, at + 1)
+}
+
+// Four bytes.
+pub fn long_at(bytes: &[u8], at: usize) -> usize
+    ensures { λ r. ⌜ r < 2 ^ 32 ⌝ }
+{
+    if bytes.len() <= at {
+        return 0;
+    }
+    if bytes.len() - at < 4 {
+        return 0;
+    }
+    (word_at(bytes, at) * 65_536 + word_at(bytes, at + 2)) as usize
+}
+
+// Eight bytes.
+pub fn number_at(bytes: &[u8], at: usize) -> u64 {
+    if bytes.len() <= at {
+        return 0;
+    }
+    if bytes.len() - at < 8 {
+        return 0;
+    }
+    long_at(bytes, at) as u64 * 4_294_967_296 + long_at(bytes, at + 4) as u64
+}
+
+pub fn first_byte(bytes: &[u8], at: usize) -> u8 {
+    if at < bytes.len() { bytes[at] } else { 0 }
+}
