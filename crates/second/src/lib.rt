@@ -2,7 +2,8 @@
 // closed and its control word names that alternative", so that no port stands in both masks; "a number of closed ports equal to the ones in
 // the two masks"; "the figure is then stored"; "places at or past the port count .. never change"; and that no control word does. Not covered:
 // "each port moves as the diagram rules of document 01 say", since a program could only repeat the core; and "the rule by which the supply is
-// shared", since claims are ranked after the moves. There the definition is the statement: `Ticks` and `Settles` of the crate `statements`.
+// shared": claims are ranked after the moves, and what was shed would have to be told by latch 12, which may stand from before. There the
+// definition is the statement: `Ticks` and `Settles` of the crate `statements`.
 mod kept;
 mod masks;
 
