@@ -11,11 +11,14 @@ use first::tables::first_start;
 use first::tables::first_status;
 use first::tables::first_tick;
 use verdict::Verdict;
-ghost use lib.ListN.{length};
 ghost use mathlib.Core.Path.{_≡_};
+ghost use mathlib.Core.Bool.{true};
+ghost use Rattle.demands.specs.Unbroken.{unbroken};
 
 // A port and a number, eight bytes each. For the start the number is how many ports, for the tick its figure, and the block is the rest.
-fn call(kind: u8, cells: &mut [u16], before: &[u16], body: &[u8]) -> Verdict {
+fn call(kind: u8, cells: &mut [u16], before: &[u16], body: &[u8]) -> Verdict
+    ensures { λ r. ⌜ unbroken r ≡ true ⌝ }
+{
     if body.len() < 16 {
         return Verdict::NotAsked;
     }
@@ -44,7 +47,9 @@ fn copy_cells(from: &[u16], to: &mut [u16]) {
 }
 
 // As many of the cells are lent as the program holds.
-pub fn call_on(kind: u8, room: &mut [u16], spare: &mut [u16], many: usize, body: &[u8]) -> Verdict {
+pub fn call_on(kind: u8, room: &mut [u16], spare: &mut [u16], many: usize, body: &[u8]) -> Verdict
+    ensures { λ r. ⌜ unbroken r ≡ true ⌝ }
+{
     if room.len() < many {
         return Verdict::NotAsked;
     }
@@ -108,7 +113,9 @@ fn copy_bytes(from: &[u8], to: &mut [u8]) {
 }
 
 // The fields, 44 bytes: the three octets, 0 for the short form, five numbers of eight bytes. The room is what follows, up to 64 bytes.
-pub fn write_in(body: &[u8]) -> Verdict {
+pub fn write_in(body: &[u8]) -> Verdict
+    ensures { λ r. ⌜ unbroken r ≡ true ⌝ }
+{
     if body.len() < 44 {
         return Verdict::NotAsked;
     }

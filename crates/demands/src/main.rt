@@ -10,7 +10,9 @@ use crate::records::Outcome;
 use crate::records::judged;
 use verdict::Verdict;
 ghost use mathlib.Core.Path.{_≡_};
+ghost use mathlib.Core.Bool.{true};
 ghost use lib.ListN.{length};
+ghost use Rattle.demands.specs.Unbroken.{unbroken, fair};
 
 // Records that are judged: every loop has to end, and no input comes near so many.
 const MOST: u64 = 1_099_511_627_776;
@@ -42,7 +44,10 @@ fn counted(counts: Counts, verdict: Verdict) -> Counts {
     }
 }
 
-fn told(verdict: Verdict) {
+// `B` is never written: who calls this has to show so.
+fn told(verdict: Verdict)
+    requires { ⌜ unbroken verdict ≡ true ⌝ }
+{
     match verdict {
         Verdict::Held => {
             io::write_all(1, b"h");
@@ -67,7 +72,9 @@ fn summed(counts: Counts) {
 }
 
 // What a record came to. At the end of the input, or where a record is cut or too long for the room, there is none.
-fn next(space: &mut [u8], cells: &mut [u16], before: &mut [u16], many: usize) -> Outcome {
+fn next(space: &mut [u8], cells: &mut [u16], before: &mut [u16], many: usize) -> Outcome
+    ensures { λ r. ⌜ fair r ≡ true ⌝ }
+{
     let mut head = [0u8; 5];
     if io::read_full(0, &mut head) < 5 {
         return Outcome::Ended;

@@ -8,6 +8,9 @@ use first::frames::first_read;
 use first::frames::first_search;
 use third::third_demand;
 use verdict::Verdict;
+ghost use mathlib.Core.Path.{_≡_};
+ghost use mathlib.Core.Bool.{true};
+ghost use Rattle.demands.specs.Unbroken.{unbroken, fair};
 
 pub enum Outcome {
     // The verdict, and how many cells the program holds then.
@@ -16,7 +19,9 @@ pub enum Outcome {
 }
 
 // The third demand: ports and the two figures, eight bytes each; how long the block is, two bytes; the block; and the rest is the history.
-fn third_in(body: &[u8]) -> Verdict {
+fn third_in(body: &[u8]) -> Verdict
+    ensures { λ r. ⌜ unbroken r ≡ true ⌝ }
+{
     if body.len() < 26 {
         return Verdict::NotAsked;
     }
@@ -35,13 +40,9 @@ fn third_in(body: &[u8]) -> Verdict {
 }
 
 // `l` lends other cells: nothing is asked.
-pub fn judged(
-    kind: u8,
-    body: &[u8],
-    cells: &mut [u16],
-    before: &mut [u16],
-    many: usize,
-) -> Outcome {
+pub fn judged(kind: u8, body: &[u8], cells: &mut [u16], before: &mut [u16], many: usize) -> Outcome
+    ensures { λ r. ⌜ fair r ≡ true ⌝ }
+{
     match kind {
         b'l' => Outcome::Came(Verdict::NotAsked, load(body, cells)),
         b'f' => Outcome::Came(first_search(body), many),

@@ -3,6 +3,7 @@
 use borrow.Author.Needs.{needs}
 use lib.ListN.{length}
 use mathlib.Core.Path.{_≡_}
+use Rattle.demands.specs.Unbroken.{of-came}
 use Rattle.demands.proofs.run.Statement.{statement}
 use Rattle.demands.proofs.run.Tie as tie
 
@@ -24,7 +25,7 @@ run-spec =
     (λ c. search needs)
     (λ c. search needs)
     (λ c. search needs)
-    (λ c κs. search needs)
+    (λ c κs. search (needs, of-came))
     (λ c κs. search needs)
     (λ c. search needs)
     (λ c. search needs)
