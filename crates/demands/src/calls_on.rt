@@ -1,4 +1,4 @@
-// The first demand of calls on the cells that the program holds, and of the writer on a room.
+// The first demand of calls on the cells that the program holds, and of the writer on a room; and the second of a tick on those cells.
 use crate::bytes::first_byte;
 use crate::bytes::number_at;
 use fields::Added;
@@ -10,6 +10,7 @@ use first::tables::first_request;
 use first::tables::first_start;
 use first::tables::first_status;
 use first::tables::first_tick;
+use second::second_tick;
 use verdict::Verdict;
 ghost use mathlib.Core.Path.{_≡_};
 ghost use mathlib.Core.Bool.{true};
@@ -58,6 +59,24 @@ pub fn call_on(kind: u8, room: &mut [u16], spare: &mut [u16], many: usize, body:
     }
     copy_cells(room, spare);
     call(kind, &mut room[..many], &spare[..many], body)
+}
+
+// The body is a tick's, whose port is not looked at. It is asked of a table's cells alone, and these stay as they are.
+pub fn second_on(room: &[u16], many: usize, body: &[u8]) -> Verdict
+    ensures { λ r. ⌜ unbroken r ≡ true ⌝ }
+{
+    if many != 728 {
+        return Verdict::NotAsked;
+    }
+    if room.len() < many {
+        return Verdict::NotAsked;
+    }
+    if body.len() < 16 {
+        return Verdict::NotAsked;
+    }
+    let mut table = [0u16; 728];
+    copy_cells(&room[..many], &mut table);
+    second_tick(table, &body[16..], number_at(body, 8))
 }
 
 fn cell(high: u8, low: u8) -> u16 {
