@@ -1,0 +1,53 @@
+-- What the program looks at once a frame is written.
+-- Assumes nothing.
+use Prim.Native.Nat.{ℕ, _-_}
+use mathlib.Core.Path.{_≡_, ap₂}
+use mathlib.Core.Bool.{Bool, false, cond, not, _&&_}
+use mathlib.Core.List.{List}
+use native.Mathlib.Omega.{arith}
+use lib.Dec.{eqb, ltb}
+use lib.ListN.{length, take, drop, length-drop}
+use lib.Seq.{take-all}
+use Rattle.fields.specs.declared.Fields.{Fields}
+use Rattle.fields.specs.declared.Form.{Form}
+use Rattle.fields.specs.declared.Form.the-variants.{Short, Long}
+use Rattle.reader.specs.Read.{readOf}
+use Rattle.reader.specs.declared.Taken.{Taken}
+use Rattle.reader.specs.declared.Taken.the-variants.{Is as Took, Refused as NotTaken}
+use Rattle.judge.specs.Alike.{alike}
+use Rattle.second_frames.specs.Same.{sameFields}
+
+-- "Length 7", "Length 12", and the header before it
+abbrev pub tlvSize : Form → ℕ
+tlvSize Short = 9
+tlvSize (Long a) = 14
+
+abbrev pub isTaken : Taken → Fields → Bool
+isTaken (Took g) f = sameFields g f
+isTaken (NotTaken k) f = false
+
+-- "reads back as written"
+unfoldable pub readsAs : List ℕ → Fields → Bool
+readsAs tlv f = isTaken (readOf tlv) f
+
+-- so many bytes of the room are the TLV, and "Room past a written TLV keeps its bytes."
+unfoldable pub writtenRight : Fields → ℕ → List ℕ → List ℕ → Bool
+writtenRight f n room before =
+    cond (not (eqb n (tlvSize (f .form)))) false
+    (cond (ltb (length room) n) false
+    (cond (ltb (length before) n) false
+    (readsAs (take n room) f && alike (drop n before) (drop n room))))
+
+-- "are rewritten the same"
+unfoldable pub rewrittenRight : List ℕ → ℕ → List ℕ → List ℕ → Bool
+rewrittenRight bytes n room before =
+    cond (ltb (length room) n) false
+    (cond (ltb (length before) n) false
+    (alike bytes (take n room) && alike (drop n before) (drop n room)))
+
+-- the part of a list from n on, as a slice lends it
+to-the-end : (n : ℕ) (l : List ℕ) → take (length l - n) (drop n l) ≡ drop n l
+to-the-end n l = take-all (length l - n) (drop n l) (omega (arith, length-drop n l))
+
+pub from-there-on : (n : ℕ) (a b : List ℕ) → alike (take (length a - n) (drop n a)) (take (length b - n) (drop n b)) ≡ alike (drop n a) (drop n b)
+from-there-on n a b = ap₂ alike (to-the-end n a) (to-the-end n b)

@@ -1,0 +1,40 @@
+-- Two TLVs' fields, compared one by one; and that this means the same fields.
+-- Assumes nothing.
+use Prim.Native.Nat.{ℕ}
+use mathlib.Core.Path.{_≡_, refl, ap}
+use mathlib.Core.Bool.{Bool, true, false, _&&_, false≢true}
+use lib.Dec.{eqb}
+use borrow.Author.Tests.{eqb-true, eq-eqb}
+use Rattle.lists.specs.Tests.{and-left, and-right}
+use Rattle.fields.specs.declared.Added.{Added}
+use Rattle.fields.specs.declared.Fields.{Fields}
+use Rattle.fields.specs.declared.Form.{Form}
+use Rattle.fields.specs.declared.Form.the-variants.{Short, Long}
+
+-- "7:6 type, 5:4 source, .. 1:0 priority .. and the requested and allocated values"
+unfoldable pub sameAdded : Added → Added → Bool
+sameAdded x y =
+    (((eqb (x .kind) (y .kind) && eqb (x .source) (y .source)) && eqb (x .priority) (y .priority)) && eqb (x .requested) (y .requested))
+    && eqb (x .allocated) (y .allocated)
+
+unfoldable pub sameForm : Form → Form → Bool
+sameForm Short Short = true
+sameForm Short (Long b) = false
+sameForm (Long a) Short = false
+sameForm (Long a) (Long b) = sameAdded a b
+
+-- "three octets kept as they are (support, pair, class)"
+unfoldable pub sameFields : Fields → Fields → Bool
+sameFields x y = ((eqb (x .support) (y .support) && eqb (x .pair) (y .pair)) && eqb (x .class) (y .class)) && sameForm (x .form) (y .form)
+
+-- ---- fields are the same as themselves
+
+form-self : (x : Form) → sameForm x x ≡ true
+unfolding sameForm sameAdded
+form-self Short = refl
+form-self (Long a) =
+    simp (eq-eqb (a .kind) (a .kind) refl, eq-eqb (a .source) (a .source) refl, eq-eqb (a .priority) (a .priority) refl, eq-eqb (a .requested) (a .requested) refl, eq-eqb (a .allocated) (a .allocated) refl)
+
+pub fields-self : (x : Fields) → sameFields x x ≡ true
+unfolding sameFields
+fields-self x = simp (eq-eqb (x .support) (x .support) refl, eq-eqb (x .pair) (x .pair) refl, eq-eqb (x .class) (x .class) refl, form-self (x .form))
