@@ -1,4 +1,5 @@
-// The first demand of calls on the cells that the program holds, and of the writer on a room; and the second of a tick on those cells.
+// The first demand of calls on the cells that the program holds, and of the writer on a room; and the second of a tick on those cells, and of
+// frames.
 use crate::bytes::first_byte;
 use crate::bytes::number_at;
 use fields::Added;
@@ -11,6 +12,8 @@ use first::tables::first_start;
 use first::tables::first_status;
 use first::tables::first_tick;
 use second::second_tick;
+use second_frames::second_read;
+use second_frames::second_write;
 use verdict::Verdict;
 ghost use mathlib.Core.Path.{_≡_};
 ghost use mathlib.Core.Bool.{true};
@@ -131,8 +134,9 @@ fn copy_bytes(from: &[u8], to: &mut [u8]) {
     }
 }
 
-// The fields, 44 bytes: the three octets, 0 for the short form, five numbers of eight bytes. The room is what follows, up to 64 bytes.
-pub fn write_in(body: &[u8]) -> Verdict
+// The fields, 44 bytes: the three octets, 0 for the short form, five numbers of eight bytes. The room is what follows, up to 64 bytes. `v`
+// asks the second demand, another letter the first.
+pub fn write_in(kind: u8, body: &[u8]) -> Verdict
     ensures { λ r. ⌜ unbroken r ≡ true ⌝ }
 {
     if body.len() < 44 {
@@ -145,5 +149,14 @@ pub fn write_in(body: &[u8]) -> Verdict
     }
     let before = &body[44..];
     copy_bytes(before, &mut room);
+    if kind == b'v' {
+        return second_write(fields_in(body), &mut room[..size], before);
+    }
     first_write(fields_in(body), &mut room[..size], before)
+}
+
+pub fn second_read_in(body: &[u8]) -> Verdict
+    ensures { λ r. ⌜ unbroken r ≡ true ⌝ }
+{
+    second_read(body)
 }

@@ -4,6 +4,7 @@ use crate::bytes::word_at;
 use crate::calls_on::call_on;
 use crate::calls_on::load;
 use crate::calls_on::second_on;
+use crate::calls_on::second_read_in;
 use crate::calls_on::write_in;
 use first::frames::first_read;
 use first::frames::first_search;
@@ -48,7 +49,8 @@ pub fn judged(kind: u8, body: &[u8], cells: &mut [u16], before: &mut [u16], many
         b'l' => Outcome::Came(Verdict::NotAsked, load(body, cells)),
         b'f' => Outcome::Came(first_search(body), many),
         b'r' => Outcome::Came(first_read(body), many),
-        b'w' => Outcome::Came(write_in(body), many),
+        b'w' | b'v' => Outcome::Came(write_in(kind, body), many),
+        b'b' => Outcome::Came(second_read_in(body), many),
         b'2' => Outcome::Came(second_on(cells, many, body), many),
         b'3' => Outcome::Came(third_in(body), many),
         _ => Outcome::Came(call_on(kind, cells, before, many, body), many),
