@@ -1,11 +1,9 @@
--- Two TLVs' fields, compared one by one; and that this means the same fields.
+-- Two TLVs' fields, compared one by one. That this means the same fields is in `Means`.
 -- Assumes nothing.
-use Prim.Native.Nat.{ℕ}
-use mathlib.Core.Path.{_≡_, refl, ap}
-use mathlib.Core.Bool.{Bool, true, false, _&&_, false≢true}
+use mathlib.Core.Path.{_≡_, refl}
+use mathlib.Core.Bool.{Bool, true, false, _&&_}
 use lib.Dec.{eqb}
-use borrow.Author.Tests.{eqb-true, eq-eqb}
-use Rattle.lists.specs.Tests.{and-left, and-right}
+use borrow.Author.Tests.{eq-eqb}
 use Rattle.fields.specs.declared.Added.{Added}
 use Rattle.fields.specs.declared.Fields.{Fields}
 use Rattle.fields.specs.declared.Form.{Form}

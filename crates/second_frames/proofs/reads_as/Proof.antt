@@ -1,5 +1,5 @@
 -- `reads_as` is `readsAs`, by what `read` answered. Assumes nothing.
-use mathlib.Core.Path.{sym, _∙_, ap}
+use mathlib.Core.Path.{sym, _∙_}
 use borrow.Author.Needs.{needs}
 use Rattle.second_frames.specs.Right.{readsAs}
 use Rattle.second_frames.proofs.reads_as.Statement.{statement}

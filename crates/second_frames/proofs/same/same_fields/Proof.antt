@@ -1,5 +1,4 @@
 -- `same_fields` is `sameFields`. Assumes nothing.
-use mathlib.Core.Path.{ap}
 use borrow.Author.Needs.{needs}
 use Rattle.second_frames.specs.Same.{sameFields}
 use Rattle.second_frames.proofs.same.same_fields.Statement.{statement}

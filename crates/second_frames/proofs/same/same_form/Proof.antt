@@ -1,5 +1,4 @@
 -- `same_form` is `sameForm`, by both forms. Assumes nothing.
-use mathlib.Core.Path.{_∙_}
 use borrow.Author.Needs.{needs}
 use Rattle.second_frames.specs.Same.{sameForm}
 use Rattle.second_frames.proofs.same.same_form.Statement.{statement}
