@@ -1,5 +1,5 @@
 // What each record asks.
-use crate::bytes::number_at;
+use crate::bytes::long_at;
 use crate::bytes::word_at;
 use crate::calls_on::call_on;
 use crate::calls_on::load;
@@ -20,24 +20,25 @@ pub enum Outcome {
     Ended,
 }
 
-// The third demand: ports and the two figures, eight bytes each; how long the block is, two bytes; the block; and the rest is the history.
+// The third demand: ports and the two figures, four bytes each, as wide as the C functions take them; how long the block is, two bytes; the
+// block; and the rest is the history.
 fn third_in(body: &[u8]) -> Verdict
     ensures { λ r. ⌜ unbroken r ≡ true ⌝ }
 {
-    if body.len() < 26 {
+    if body.len() < 14 {
         return Verdict::NotAsked;
     }
-    let long = word_at(body, 24) as usize;
-    if body.len() - 26 < long {
+    let long = word_at(body, 12) as usize;
+    if body.len() - 14 < long {
         return Verdict::NotAsked;
     }
-    let end = 26 + long;
+    let end = 14 + long;
     third_demand(
         &body[end..],
-        number_at(body, 0),
-        &body[26..end],
-        number_at(body, 8),
-        number_at(body, 16),
+        long_at(body, 0) as u32,
+        &body[14..end],
+        long_at(body, 4) as u32,
+        long_at(body, 8) as u32,
     )
 }
 

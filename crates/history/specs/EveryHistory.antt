@@ -1,5 +1,5 @@
 -- No history is missed: for every list of calls there are bytes that reach the same table with the same things shown. Nothing is asked of
--- the calls. A number of more than 64 bits is refused, and a refused call changes nothing and is left out; a tick that runs on a block
+-- the calls. A number of more than 32 bits is refused, and a refused call changes nothing and is left out; a tick that runs on a block
 -- of any numbers is one on bytes.
 -- Assumes nothing.
 use Prim.Native.Nat.{ℕ, _≤_, _<_, _^_}
@@ -100,17 +100,17 @@ module _ (t : Table) (few : t .count ≤ 48) where
       ⊎-elim
       (λ (f : Fits (control p w)). inl (record { call = control p w; fits = f; of-bytes = tt; table = refl; shows = λ q x. refl }))
       (λ (odd : Fits (control p w) → ⊥). inr (record { table = control-still p w odd; shows = λ q x. refl }))
-      (both-or (below-or p (2 ^ 64)) (below-or w (2 ^ 64)))
+      (both-or (below-or p (2 ^ 32)) (below-or w (2 ^ 32)))
   kept-or (status p) =
       ⊎-elim
       (λ (f : Fits (status p)). inl (record { call = status p; fits = f; of-bytes = tt; table = refl; shows = λ q x. refl }))
       (λ (odd : Fits (status p) → ⊥). inr (record { table = status-still p odd; shows = λ q x. refl }))
-      (below-or p (2 ^ 64))
+      (below-or p (2 ^ 32))
   kept-or (requested p v) =
       ⊎-elim
       (λ (f : Fits (requested p v)). inl (record { call = requested p v; fits = f; of-bytes = tt; table = refl; shows = λ q x. refl }))
       (λ (odd : Fits (requested p v) → ⊥). inr (record { table = request-still p v odd; shows = λ q x. refl }))
-      (both-or (below-or p (2 ^ 64)) (below-or v (2 ^ 64)))
+      (both-or (below-or p (2 ^ 32)) (below-or v (2 ^ 32)))
   kept-or (ticked block figure) =
       ⊎-elim
       (λ (x : Stopped t (tick t block figure)). inr (stopped-left block figure x))

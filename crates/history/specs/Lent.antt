@@ -1,4 +1,4 @@
--- A history on lent cells: what each call leaves in them.
+-- A history on lent cells: what each call leaves in them, and what a tick answers beside.
 use Prim.Native.Nat.{ℕ}
 use mathlib.Core.Bool.{Bool, false}
 use mathlib.Core.List.{List, [], _∷_}
@@ -7,7 +7,14 @@ use Rattle.cells.specs.Cells.{cellsLong}
 use Rattle.cells.specs.Lent.{cellsTold, cellsRead, cellsTicked, cellsCold}
 use Rattle.replies.specs.OnCells.{startOn, controlOn, statusOn, requestOn}
 use Rattle.passes.specs.OnCells.{tickOn}
+use Rattle.table.specs.declared.form.Closed.{Closed}
+use Rattle.ipaqsuni.specs.Calls.{tickNumber, maskALeft, maskBLeft}
 use Rattle.statements.specs.History.{Call, control, status, requested, ticked, accepted}
+use Rattle.history.specs.declared.TickAnswer.{TickAnswer}
+
+-- what a tick that comes to this answers through the C interface: its number, and what it leaves in two masks that were lent as 0
+abbrev pub answerOf : Closed → TickAnswer
+answerOf x = record { number = tickNumber x; a = maskALeft x 0; b = maskBLeft x 0 }
 
 -- the cells after a call, accepted or refused
 unfoldable pub cellsAfter : List ℕ → Call → List ℕ

@@ -1,15 +1,18 @@
--- The cells that a history leaves are the table that it reaches.
+-- The cells that a history leaves are the table that it reaches; and a tick's number tells whether it is accepted.
 -- Assumes nothing.
 use Prim.Native.Nat.{ℕ, _≤_}
 use mathlib.Core.Path.{_≡_, refl, subst}
 use mathlib.Core.Bool.{true}
 use mathlib.Core.List.{List, [], _∷_}
+use lib.Dec.{eqb}
 use lib.ListN.{replicate}
 use native.Mathlib.Omega.{arith}
 use borrow.Author.Tests.{ne-eqb, le-ltb}
 use Rattle.lists.specs.Ladder.{ladder-holds}
 use Rattle.power.specs.Power.{tenths}
 use Rattle.table.specs.Form.{done, refuse, tells, refuseStatus, refuseTick}
+use Rattle.table.specs.declared.form.Closed.{Closed}
+use Rattle.table.specs.declared.form.Closed.the-variants.{Ports, Refused}
 use Rattle.table.specs.declared.form.StatusRead.{StatusRead}
 use Rattle.table.specs.declared.form.Table.{Table}
 use Rattle.table.specs.declared.form.Ticked.{Ticked}
@@ -21,8 +24,9 @@ use Rattle.replies.specs.Calls.{coldTable, coldStart, controlRefusals, writeCon
 use Rattle.replies.specs.OnCells.{startOn, controlOn, statusOn, requestOn}
 use Rattle.passes.specs.OnCells.{tickOn}
 use Rattle.passes.specs.Tick.{tickRefusals, tick}
-use Rattle.interface.specs.Laws.{Are, next-call, cold-are, with-port-are, after-are}
-use Rattle.statements.specs.History.{Call, control, status, requested, ticked, after, reached}
+use Rattle.interface.specs.Laws.{FairTick, calls, Are, next-call, cold-are, with-port-are, after-are}
+use Rattle.ipaqsuni.specs.Calls.{tickNumber}
+use Rattle.statements.specs.History.{Call, control, status, requested, ticked, after, reached, accepted}
 use Rattle.history.specs.Lent.{cellsAfter, cellsStarted, cellsReached}
 
 -- ---- a call on cells that are a table
@@ -87,3 +91,13 @@ cells-reached n a b (c ∷ h) = after-call (reached n h) (cellsReached n h) (cel
 pub tick-reached : (n : ℕ) → 1 ≤ n → n ≤ 48 → (h : List Call) (block : List ℕ) (figure : ℕ) → tickOn (cellsReached n h) block figure ≡ tick (reached n h) block figure
 unfolding tickOn
 tick-reached n a b h block figure = next-call (reached n h) (cellsReached n h) (cells-reached n a b h) (λ u. tick u block figure) _
+
+-- ---- by the number
+
+by-number : (x : Closed) (t : Table) (left : List ℕ) → FairTick x t left → eqb (tickNumber x) 0 ≡ accepted x
+by-number (Ports a b k) t left fair = refl
+by-number (Refused k) t left fair = ne-eqb k 0 (λ e. omega arith)
+
+-- no refusal is numbered 0, so that a tick is accepted exactly where its number is
+pub zero-accepted : (l block : List ℕ) (figure : ℕ) → eqb (tickNumber (tickOn l block figure .answer)) 0 ≡ accepted (tickOn l block figure .answer)
+zero-accepted l block figure = by-number (tickOn l block figure .answer) _ _ (calls .tick l block figure)

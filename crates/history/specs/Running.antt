@@ -27,20 +27,19 @@ word-drop at b k =
 number-drop : (at : ℕ) (b : List ℕ) (k : ℕ) → numberAt (drop at b) k ≡ numberAt b (at + k)
 unfolding numberAt
 number-drop at b k =
-    let word : (j : ℕ) → wordAt (drop at b) (k + j) ≡ wordAt b (at + k + j) = λ j. let e : at + (k + j) ≡ at + k + j = omega arith in word-drop at b (k + j) ∙ ap (wordAt b) e in
-    ap₂ (λ (x y : ℕ). ofWords x y (wordAt (drop at b) (k + 4)) (wordAt (drop at b) (k + 6))) (word-drop at b k) (word 2)
-    ∙ ap₂ (ofWords (wordAt b (at + k)) (wordAt b (at + k + 2))) (word 4) (word 6)
+    let e : at + (k + 2) ≡ at + k + 2 = omega arith in
+    ap₂ ofWords (word-drop at b k) (word-drop at b (k + 2) ∙ ap (wordAt b) e)
 
 -- ---- one record more, and none
 
-pub record-more : (most : ℕ) (b : List ℕ) (h : List Call) → 19 ≤ length b → callsFrom (suc most) b h ≡ callsFrom most (drop (19 + blockLong b) b) (firstCall b ∷ h)
+pub record-more : (most : ℕ) (b : List ℕ) (h : List Call) → 11 ≤ length b → callsFrom (suc most) b h ≡ callsFrom most (drop (11 + blockLong b) b) (firstCall b ∷ h)
 unfolding callsFrom
-record-more most b h l = simp (le-leb 19 (length b) l)
+record-more most b h l = simp (le-leb 11 (length b) l)
 
-pub record-none : (most : ℕ) (b : List ℕ) (h : List Call) → length b < 19 → callsFrom most b h ≡ h
+pub record-none : (most : ℕ) (b : List ℕ) (h : List Call) → length b < 11 → callsFrom most b h ≡ h
 unfolding callsFrom
 record-none zero b h l = refl
-record-none (suc most) b h l = simp (lt-leb 19 (length b) l)
+record-none (suc most) b h l = simp (lt-leb 11 (length b) l)
 
 -- the marks, by what is known of the call
 pub noted-as : (l block marks x : List ℕ) (a b : Bool) → x ≡ notedAll l a block marks → a ≡ b → x ≡ notedAll l b block marks
@@ -74,18 +73,18 @@ module _ (n : ℕ) (history : List ℕ) where
       record { calls = []; cells-are = e; marks-are = f; most = length history; enough = omega arith; rest = refl }
 
   module _ (at : ℕ) (cells marks : List ℕ) (d : Decoded n history at cells marks) where
-    pub decoded-all : length history - at < 19 → (cells ≡ cellsReached n (callsOf history)) × (marks ≡ marksReached n (callsOf history))
+    pub decoded-all : length history - at < 11 → (cells ≡ cellsReached n (callsOf history)) × (marks ≡ marksReached n (callsOf history))
     decoded-all l =
         let e : d .calls ≡ callsOf history = sym (record-none (d .most) (drop at history) (d .calls) (omega (arith, length-drop at history))) ∙ d .rest in
         (d .cells-are ∙ ap (cellsReached n) e, d .marks-are ∙ ap (marksReached n) e)
 
     module _ (port number end : ℕ)
-        (long : 19 ≤ length history - at)
+        (long : 11 ≤ length history - at)
         (p : port ≡ numberAt history (at + 1))
-        (v : number ≡ numberAt history (at + 9))
-        (e : end ≡ at + 19 + min (wordAt history (at + 17)) (length history - (at + 19))) where
+        (v : number ≡ numberAt history (at + 5))
+        (e : end ≡ at + 11 + min (wordAt history (at + 9)) (length history - (at + 11))) where
       abbrev block : List ℕ
-      block = take (end - (at + 19)) (drop (at + 19) history)
+      block = take (end - (at + 11)) (drop (at + 11) history)
 
       abbrev made : Call
       made = callOf (getD history at 0) port number block
@@ -93,22 +92,22 @@ module _ (n : ℕ) (history : List ℕ) where
       b : List ℕ
       b = drop at history
 
-      long-is : blockLong b ≡ end - (at + 19)
+      long-is : blockLong b ≡ end - (at + 11)
       unfolding blockLong b
-      long-is = omega (arith, e, word-drop at history 17, length-drop at history)
+      long-is = omega (arith, e, word-drop at history 9, length-drop at history)
 
-      dropped : drop (19 + blockLong b) b ≡ drop end history
+      dropped : drop (11 + blockLong b) b ≡ drop end history
       unfolding b
       dropped =
-          let q : at + (19 + blockLong b) ≡ end = omega (arith, e, long-is) in
-          drop-drop (19 + blockLong b) at history ∙ ap (λ (j : ℕ). drop j history) q
+          let q : at + (11 + blockLong b) ≡ end = omega (arith, e, long-is) in
+          drop-drop (11 + blockLong b) at history ∙ ap (λ (j : ℕ). drop j history) q
 
       made-is : firstCall b ≡ made
       unfolding firstCall b
       made-is =
           let q : at + 0 ≡ at = omega arith in
-          ap₂ (λ (k x : ℕ). callOf k x (numberAt b 9) (take (blockLong b) (drop 19 b))) (getD-drop at history 0 0 ∙ ap (λ (j : ℕ). getD history j 0) q) (number-drop at history 1 ∙ sym p)
-          ∙ ap₂ (callOf (getD history at 0) port) (number-drop at history 9 ∙ sym v) (ap₂ (λ (k : ℕ) (l : List ℕ). take k l) long-is (drop-drop 19 at history))
+          ap₂ (λ (k x : ℕ). callOf k x (numberAt b 5) (take (blockLong b) (drop 11 b))) (getD-drop at history 0 0 ∙ ap (λ (j : ℕ). getD history j 0) q) (number-drop at history 1 ∙ sym p)
+          ∙ ap₂ (callOf (getD history at 0) port) (number-drop at history 5 ∙ sym v) (ap₂ (λ (k : ℕ) (l : List ℕ). take k l) long-is (drop-drop 11 at history))
 
       pub decoded-more : (then thenMarks : List ℕ) → then ≡ cellsAfter cells made → thenMarks ≡ notedAll then (ranOn cells made) block marks → Decoded n history end then thenMarks
       unfolding cellsReached marksReached b

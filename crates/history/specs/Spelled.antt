@@ -21,13 +21,10 @@ Bytes (b ∷ l) = (b < 256) × Bytes l
 abbrev four : ℕ → List ℕ → List ℕ
 four n rest = n / 16777216 ∷ n / 65536 % 256 ∷ n / 256 % 256 ∷ n % 256 ∷ rest
 
-abbrev eight : ℕ → List ℕ → List ℕ
-eight n rest = four (n / 4294967296) (four (n % 4294967296) rest)
-
 -- ---- a record
 
 abbrev recordOf : ℕ → ℕ → ℕ → List ℕ → List ℕ
-recordOf kind port number block = kind ∷ eight port (eight number (length block / 256 ∷ length block % 256 ∷ block))
+recordOf kind port number block = kind ∷ four port (four number (length block / 256 ∷ length block % 256 ∷ block))
 
 abbrev pub spell : Call → List ℕ
 spell (control p w) = recordOf 0 p w []
@@ -47,14 +44,9 @@ turned (c ∷ cs) h = turned cs (c ∷ h)
 
 -- ---- read back
 
-four-back : (n : ℕ) → (256 * (n / 16777216) + n / 65536 % 256) * 65536 + (256 * (n / 256 % 256) + n % 256) ≡ n
-four-back n = omega arith
-
-eight-back : (n : ℕ) (b : List ℕ) → numberAt (eight n b) 0 ≡ n
+four-back : (n : ℕ) (b : List ℕ) → numberAt (four n b) 0 ≡ n
 unfolding numberAt wordAt
-eight-back n b =
-    let e : n / 4294967296 * 4294967296 + n % 4294967296 ≡ n = omega arith in
-    ap₂ (λ (x y : ℕ). x * 4294967296 + y) (four-back (n / 4294967296)) (four-back (n % 4294967296)) ∙ e
+four-back n b = omega arith
 
 module _ (kind port number : ℕ) (block rest : List ℕ) where
   abbrev b : List ℕ
@@ -66,20 +58,20 @@ module _ (kind port number : ℕ) (block rest : List ℕ) where
 
   port-back : numberAt b 1 ≡ port
   unfolding numberAt wordAt
-  port-back = eight-back port []
+  port-back = four-back port []
 
-  number-back : numberAt b 9 ≡ number
+  number-back : numberAt b 5 ≡ number
   unfolding numberAt wordAt
-  number-back = eight-back number []
+  number-back = four-back number []
 
   call-back : firstCall b ≡ callOf kind port number block
   unfolding firstCall
   call-back =
-      ap₂ (λ (x y : ℕ). callOf kind x y (take (blockLong b) (drop 19 b))) port-back number-back
+      ap₂ (λ (x y : ℕ). callOf kind x y (take (blockLong b) (drop 11 b))) port-back number-back
       ∙ ap (callOf kind port number) (ap (λ (k : ℕ). take k (block ++ rest)) long-back ∙ take-append-seam block rest)
 
-  rest-back : drop (19 + blockLong b) b ≡ rest
-  rest-back = sym (drop-drop (blockLong b) 19 b) ∙ ap (λ (k : ℕ). drop k (block ++ rest)) long-back ∙ drop-append-seam block rest
+  rest-back : drop (11 + blockLong b) b ≡ rest
+  rest-back = sym (drop-drop (blockLong b) 11 b) ∙ ap (λ (k : ℕ). drop k (block ++ rest)) long-back ∙ drop-append-seam block rest
 
   record-back : (most : ℕ) (h : List Call) → callsFrom (suc most) b h ≡ callsFrom most rest (callOf kind port number block ∷ h)
   record-back most h = record-more most b h (omega arith) ∙ ap₂ (λ (x : List ℕ) (c : Call). callsFrom most x (c ∷ h)) rest-back call-back
@@ -124,12 +116,12 @@ spelled-back h =
 
 -- ---- bytes
 
--- a call that a record holds: numbers of 64 bits, and a block whose length two bytes say
+-- a call that a record holds: numbers of 32 bits, and a block whose length two bytes say
 abbrev pub Fits : Call → Type 0
-Fits (control p w) = (p < 2 ^ 64) × (w < 2 ^ 64)
-Fits (status p) = p < 2 ^ 64
-Fits (requested p v) = (p < 2 ^ 64) × (v < 2 ^ 64)
-Fits (ticked block figure) = (length block < 2 ^ 16) × (figure < 2 ^ 64)
+Fits (control p w) = (p < 2 ^ 32) × (w < 2 ^ 32)
+Fits (status p) = p < 2 ^ 32
+Fits (requested p v) = (p < 2 ^ 32) × (v < 2 ^ 32)
+Fits (ticked block figure) = (length block < 2 ^ 16) × (figure < 2 ^ 32)
 
 -- a tick's block is bytes
 abbrev pub OfBytes : Call → Type 0
@@ -142,16 +134,13 @@ abbrev pub All : (Call → Type 0) → List Call → Type 0
 All P [] = Unit {0}
 All P (c ∷ h) = P c × All P h
 
-four-bytes : (n : ℕ) (rest : List ℕ) → n < 4294967296 → Bytes rest → Bytes (four n rest)
+four-bytes : (n : ℕ) (rest : List ℕ) → n < 2 ^ 32 → Bytes rest → Bytes (four n rest)
 four-bytes n rest l r = (omega arith, (omega arith, (omega arith, (omega arith, r))))
 
-eight-bytes : (n : ℕ) (rest : List ℕ) → n < 2 ^ 64 → Bytes rest → Bytes (eight n rest)
-eight-bytes n rest l r = four-bytes (n / 4294967296) (four (n % 4294967296) rest) (omega arith) (four-bytes (n % 4294967296) rest (omega arith) r)
-
-record-bytes : (kind port number : ℕ) (block : List ℕ) → kind < 256 → port < 2 ^ 64 → number < 2 ^ 64 → length block < 2 ^ 16 → Bytes block → Bytes (recordOf kind port number block)
+record-bytes : (kind port number : ℕ) (block : List ℕ) → kind < 256 → port < 2 ^ 32 → number < 2 ^ 32 → length block < 2 ^ 16 → Bytes block → Bytes (recordOf kind port number block)
 record-bytes kind port number block k p v l r =
     let long = length block / 256 ∷ length block % 256 ∷ block in
-    (k, eight-bytes port (eight number long) p (eight-bytes number long v (omega arith, (omega arith, r))))
+    (k, four-bytes port (four number long) p (four-bytes number long v (omega arith, (omega arith, r))))
 
 append-bytes : (l m : List ℕ) → Bytes l → Bytes m → Bytes (l ++ m)
 append-bytes [] m x y = y

@@ -27,12 +27,10 @@ pub fn word_at(bytes: &[u8], at: usize) -> u64
     256 * byte_at(bytes, at) + byte_at(bytes, at + 1)
 }
 
-// Eight bytes.
-pub fn number_at(bytes: &[u8], at: usize) -> u64
-    requires { ⌜ at + 7 < 2 ^ 64 ⌝ }
+// Four bytes: as wide as the C functions take a number.
+pub fn number_at(bytes: &[u8], at: usize) -> u32
+    requires { ⌜ at + 3 < 2 ^ 64 ⌝ }
     ensures { λ r. ⌜ r ≡ numberAt (now (bytes .entry)) at ⌝ }
 {
-    let upper = word_at(bytes, at) * 65_536 + word_at(bytes, at + 2);
-    let lower = word_at(bytes, at + 4) * 65_536 + word_at(bytes, at + 6);
-    upper * 4_294_967_296 + lower
+    (word_at(bytes, at) * 65_536 + word_at(bytes, at + 2)) as u32
 }

@@ -1,6 +1,6 @@
--- What the tests mean, of any core. Take any table, answer and account of what was shown: if the answer names the closed ports and the marks
--- are those of the account, then of a tick that passes the tests the demand holds. So a weaker test is refused here, also where code and
--- definition agree on it.
+-- What the tests mean, of any core. Take any table, answer and account of what was shown: if the answer's masks name the closed ports and
+-- the marks are those of the account, then of a tick that passes the tests the demand holds. So a weaker test is refused here, also where
+-- code and definition agree on it.
 -- Assumes nothing.
 use Prim.Native.Nat.{ℕ, _+_, _≤_, _<_}
 use mathlib.Core.Path.{_≡_, refl, sym, _∙_, ap₂}
@@ -16,16 +16,16 @@ use Rattle.lists.specs.Total.{total, total-cong, total-less}
 use Rattle.port.specs.States.{closed, isIdle, inTest}
 use Rattle.table.specs.Drawn.{closedAt, draws, closedSum}
 use Rattle.table.specs.Form.{portAt}
-use Rattle.table.specs.declared.form.Closed.{Closed}
 use Rattle.table.specs.declared.form.Table.{Table}
 use Rattle.interface.specs.Laws.{Are}
-use Rattle.statements.specs.History.{accepted, Shown, nothing, signature, both}
+use Rattle.statements.specs.History.{Shown, nothing, signature, both}
 use Rattle.history.specs.MarkLaws.{markOf}
 use Rattle.history.specs.States.{test-cell, demand-cell}
+use Rattle.history.specs.declared.TickAnswer.{TickAnswer}
 use Rattle.third.specs.Answers.{closedIn, noneLostIn, demandsIn, allShownIn, soundIn}
 
 -- the answer names the closed ports
-abbrev pub Names : Closed → Table → Type 0
+abbrev pub Names : TickAnswer → Table → Type 0
 Names x t = (p : ℕ) → p < 48 → closedIn x p ≡ closedAt t p
 
 below : (t : Table) (p : ℕ) → closedAt t p ≡ true → p < t .count
@@ -57,7 +57,7 @@ pub record Holds (t : Table) (figure : ℕ) (account : ℕ → Shown) : Type 0 w
   -- "no port outside the forced test state is closed unless, since it last stood in IDLE, it showed a valid signature and gave a class"
   pub shows : (p : ℕ) → closedAt t p ≡ true → inTest (portAt t p .state) ≡ false → account p ≡ both
 
-module _ (t : Table) (l : List ℕ) (x : Closed) (are : Are t l) (few : t .count ≤ 48) (names : Names x t) where
+module _ (t : Table) (l : List ℕ) (x : TickAnswer) (are : Are t l) (few : t .count ≤ 48) (names : Names x t) where
   pub sum-says : demandsIn l x ≡ closedSum t
   unfolding demandsIn
   sum-says = total-cong 48 _ _ (λ p h. ap₂ (λ (b : Bool) (d : ℕ). cond b d 0) (names p h) (sym (demand-cell t l are p h))) ∙ sum-is t few
@@ -71,17 +71,17 @@ module _ (t : Table) (l : List ℕ) (x : Closed) (are : Are t l) (few : t .count
         (sym (marked p h)
         ∙ eqb-true (getD marks p 0) 3 (third-holds (closedIn x p) (eqb (getD l (8 + p) 0) 8) _ (names p h ∙ c) (sym (test-cell t l are p h) ∙ i) (every-at 48 _ e p h)))
 
-    pub sound-means : (figure : ℕ) → soundIn l marks x figure ≡ true → (accepted x ≡ true) × Holds t figure account
+    pub sound-means : (figure : ℕ) → soundIn l marks x figure ≡ true → (x .number ≡ 0) × Holds t figure account
     unfolding soundIn
     sound-means figure e =
-        let first = and-left (accepted x && leb (demandsIn l x) figure) (allShownIn l marks x) e in
-        let sum : demandsIn l x ≤ figure = leb-true (demandsIn l x) figure (and-right (accepted x) (leb (demandsIn l x) figure) first) in (
-          and-left (accepted x) (leb (demandsIn l x) figure) first,
-          record { fits = omega (arith, sum-says); shows = shown-says (and-right (accepted x && leb (demandsIn l x) figure) (allShownIn l marks x) e) },
+        let first = and-left (eqb (x .number) 0 && leb (demandsIn l x) figure) (allShownIn l marks x) e in
+        let sum : demandsIn l x ≤ figure = leb-true (demandsIn l x) figure (and-right (eqb (x .number) 0) (leb (demandsIn l x) figure) first) in (
+          eqb-true (x .number) 0 (and-left (eqb (x .number) 0) (leb (demandsIn l x) figure) first),
+          record { fits = omega (arith, sum-says); shows = shown-says (and-right (eqb (x .number) 0 && leb (demandsIn l x) figure) (allShownIn l marks x) e) },
         )
 
 -- "Every port closed under the smaller figure is closed under the greater."
-pub lost-means : (t u : Table) (x y : Closed) → t .count ≤ 48 → Names x t → Names y u → noneLostIn x y ≡ true → (p : ℕ) → closedAt t p ≡ true → closedAt u p ≡ true
+pub lost-means : (t u : Table) (x y : TickAnswer) → t .count ≤ 48 → Names x t → Names y u → noneLostIn x y ≡ true → (p : ℕ) → closedAt t p ≡ true → closedAt u p ≡ true
 unfolding noneLostIn
 lost-means t u x y few names named e p c =
     let h : p < 48 = omega (arith, below t p c) in

@@ -2,7 +2,7 @@
 -- Assumes nothing.
 use Prim.Native.Nat.{ℕ, _+_, _*_, _≤_, _<_}
 use mathlib.Core.Path.{_≡_, refl, sym, _∙_, ap, ap₂, subst}
-use mathlib.Core.Bool.{Bool, true, false, not, _&&_, _||_}
+use mathlib.Core.Bool.{Bool, true, false, not, _&&_, _||_, false≢true}
 use mathlib.Core.List.{List, [], _∷_}
 use native.Mathlib.Omega.{arith}
 use lib.Dec.{ltb, eqb}
@@ -16,6 +16,7 @@ use Rattle.table.specs.Drawn.{closedAt}
 use Rattle.table.specs.Laws.{well-count}
 use Rattle.table.specs.WellMade.{illMade, wellMade}
 use Rattle.table.specs.declared.form.Closed.{Closed}
+use Rattle.table.specs.declared.form.Closed.the-variants.{Ports, Refused}
 use Rattle.table.specs.declared.form.Table.{Table}
 use Rattle.table.specs.declared.form.Ticked.{Ticked}
 use Rattle.boards.specs.MaskLaws.{closed-bits}
@@ -23,15 +24,17 @@ use Rattle.boards.specs.Masks.{answered}
 use Rattle.passes.specs.OnCells.{tickOn}
 use Rattle.passes.specs.Tick.{flagsReserved, tick}
 use Rattle.interface.specs.Laws.{Are}
+use Rattle.ipaqsuni.specs.Calls.{tickNumber}
 use Rattle.statements.specs.History.{Call, ticked, after, reached, accepted, both, shown}
 use Rattle.statements.specs.Reached.{reached-well, call-count, cold-table, cold-count}
 use Rattle.statements.specs.Statement2.{statement-2}
 use Rattle.statements.specs.Statement3.{Third, statement-3, closed-has-shown}
-use Rattle.history.specs.Lent.{cellsAfter, ranOn, cellsReached}
+use Rattle.history.specs.Lent.{answerOf, cellsAfter, ranOn, cellsReached}
 use Rattle.history.specs.LentLaws.{cells-reached, tick-reached}
 use Rattle.history.specs.MarkLaws.{both-mark}
 use Rattle.history.specs.Marks.{notedAll, marksReached}
 use Rattle.history.specs.States.{test-cell}
+use Rattle.history.specs.declared.TickAnswer.{TickAnswer}
 use Rattle.third.specs.Answers.{closedIn, noneLostIn, demandsIn, allShownIn, soundIn}
 use Rattle.third.specs.Asks.{flagsClear, Asked}
 use Rattle.third.specs.Means.{sum-says}
@@ -76,14 +79,18 @@ accepts n h block figure f =
 
 -- ---- one tick of what a history reaches
 
+number-zero : (c : Closed) → accepted c ≡ true → tickNumber c ≡ 0
+number-zero (Ports a b k) e = refl
+number-zero (Refused k) e = absurd (false≢true e)
+
 module _ (n : ℕ) (h : List Call) (block : List ℕ) (figure : ℕ) (f : Fit n block figure) where
   abbrev g : List Call
   g = ticked block figure ∷ h
 
-  abbrev x : Closed
-  x = tickOn (cellsReached n h) block figure .answer
+  abbrev x : TickAnswer
+  x = answerOf (tickOn (cellsReached n h) block figure .answer)
 
-  answer-is : x ≡ tick (reached n h) block figure .answer
+  answer-is : tickOn (cellsReached n h) block figure .answer ≡ tick (reached n h) block figure .answer
   answer-is = ap (λ (r : Ticked). r .answer) (tick-reached n (f .one) (f .most) h block figure)
 
   runs : accepted (tick (reached n h) block figure .answer) ≡ true
@@ -93,7 +100,7 @@ module _ (n : ℕ) (h : List Call) (block : List ℕ) (figure : ℕ) (f : Fit n 
   closed-is : (p : ℕ) → p < 48 → closedIn x p ≡ closedAt (reached n g) p
   unfolding reached after
   closed-is p l =
-      ap (λ (c : Closed). closedIn c p) (answer-is ∙ statement-2 .ticks (reached n h) block figure runs .answers)
+      ap (λ (c : Closed). closedIn (answerOf c) p) (answer-is ∙ statement-2 .ticks (reached n h) block figure runs .answers)
       ∙ closed-bits (reached n g) (reached-well n (f .one) (f .most) g) p l
 
   are : Are (reached n g) (cellsReached n g)
@@ -120,7 +127,9 @@ module _ (n : ℕ) (h : List Call) (block : List ℕ) (figure : ℕ) (f : Fit n 
 
   pub is-sound : soundIn (cellsReached n g) (marksReached n g) x figure ≡ true
   unfolding soundIn
-  is-sound = simp (ap accepted answer-is ∙ runs, le-leb _ _ fits, shows)
+  is-sound =
+      let zero = number-zero (tickOn (cellsReached n h) block figure .answer) (ap accepted answer-is ∙ runs) in
+      ap₂ _&&_ (ap₂ _&&_ (eq-eqb (x .number) 0 zero) (le-leb _ _ fits)) shows
 
 -- ---- and two
 
@@ -135,21 +144,21 @@ module _ (n : ℕ) (block : List ℕ) (less more : ℕ) (a : Asked n block less 
   pub great : Fit n block more
   great = record { one = a .one; most = a .most; range = a .range; whole = a .whole; clear = a .clear }
 
-  pub loses-none : (h : List Call) → noneLostIn (tickOn (cellsReached n h) block less .answer) (tickOn (cellsReached n h) block more .answer) ≡ true
+  pub loses-none : (h : List Call) → noneLostIn (answerOf (tickOn (cellsReached n h) block less .answer)) (answerOf (tickOn (cellsReached n h) block more .answer)) ≡ true
   unfolding noneLostIn reached after
   loses-none h =
       let t = statement-3 n (a .one) (a .most) h block less more (a .le) (accepts n h block less small) (accepts n h block more great) in
       every-of 48 _ (λ p l. implies _ _ (λ e. closed-is n h block more great p l ∙ t .closes-more p (sym (closed-is n h block less small p l) ∙ e)))
 
 -- what the program has in hand after the tick on one figure
-module _ (n : ℕ) (h : List Call) (block : List ℕ) (figure : ℕ) (from fromMarks cells marks : List ℕ) (x : Closed)
+module _ (n : ℕ) (h : List Call) (block : List ℕ) (figure : ℕ) (from fromMarks cells marks : List ℕ) (x : TickAnswer)
     (e : from ≡ cellsReached n h)
     (m : fromMarks ≡ marksReached n h)
     (c : cells ≡ cellsAfter from (ticked block figure))
     (k : marks ≡ notedAll cells (ranOn from (ticked block figure)) block fromMarks)
-    (r : x ≡ tickOn from block figure .answer) where
-  pub answer-in : x ≡ tickOn (cellsReached n h) block figure .answer
-  answer-in = r ∙ ap (λ (l : List ℕ). tickOn l block figure .answer) e
+    (r : x ≡ answerOf (tickOn from block figure .answer)) where
+  pub answer-in : x ≡ answerOf (tickOn (cellsReached n h) block figure .answer)
+  answer-in = r ∙ ap (λ (l : List ℕ). answerOf (tickOn l block figure .answer)) e
 
   cells-in : cells ≡ cellsReached n (ticked block figure ∷ h)
   unfolding cellsReached
@@ -165,5 +174,5 @@ module _ (n : ℕ) (h : List Call) (block : List ℕ) (figure : ℕ) (from fromM
   pub sound-in : Fit n block figure → soundIn cells marks x figure ≡ true
   sound-in f =
       ap₂ (λ (u l : List ℕ). soundIn u l x figure) cells-in marks-in
-      ∙ ap (λ (y : Closed). soundIn (cellsReached n (ticked block figure ∷ h)) (marksReached n (ticked block figure ∷ h)) y figure) answer-in
+      ∙ ap (λ (y : TickAnswer). soundIn (cellsReached n (ticked block figure ∷ h)) (marksReached n (ticked block figure ∷ h)) y figure) answer-in
       ∙ is-sound n h block figure f

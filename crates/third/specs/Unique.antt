@@ -3,15 +3,14 @@
 -- Assumes nothing.
 use Prim.Native.Nat.{ℕ}
 use mathlib.Core.Path.{_≡_, sym, _∙_, ap}
-use mathlib.Core.Bool.{Bool, cond}
+use mathlib.Core.Bool.{cond}
 use mathlib.Core.List.{List}
-use Rattle.table.specs.declared.form.Closed.{Closed}
 use Rattle.passes.specs.OnCells.{tickOn}
 use Rattle.verdict.specs.declared.Verdict.{Verdict}
 use Rattle.verdict.specs.declared.Verdict.the-variants.{Held, NotAsked}
-use Rattle.statements.specs.History.{ticked, accepted}
+use Rattle.statements.specs.History.{ticked}
 use Rattle.history.specs.Decode.{callsOf}
-use Rattle.history.specs.Lent.{cellsAfter, ranOn, cellsReached}
+use Rattle.history.specs.Lent.{answerOf, cellsAfter, ranOn, cellsReached}
 use Rattle.history.specs.Marks.{notedAll, marksReached}
 use Rattle.history.specs.declared.Reached.{Reached}
 use Rattle.history.specs.declared.Tried.{Tried}
@@ -22,9 +21,8 @@ abbrev pub One : (A : Type 0) → (A → Type 0) → Type 0
 One A promise = (r s : A) → promise r → promise s → r ≡ s
 
 pub record Unique : Type 0 where
-  pub history-accepted : (answer : Closed) → One Bool (λ r. r ≡ accepted answer)
   pub history-run : (history : List ℕ) (ports : ℕ) → One Reached (λ r. (r .cells ≡ cellsReached ports (callsOf history)) × (r .shown ≡ marksReached ports (callsOf history)))
-  pub history-tick-from : (from : Reached) (block : List ℕ) (figure : ℕ) → One Tried (λ r. (r .cells ≡ cellsAfter (from .cells) (ticked block figure)) × (r .shown ≡ notedAll (r .cells) (ranOn (from .cells) (ticked block figure)) block (from .shown)) × (r .answer ≡ tickOn (from .cells) block figure .answer))
+  pub history-tick-from : (from : Reached) (block : List ℕ) (figure : ℕ) → One Tried (λ r. (r .cells ≡ cellsAfter (from .cells) (ticked block figure)) × (r .shown ≡ notedAll (r .cells) (ranOn (from .cells) (ticked block figure)) block (from .shown)) × (r .answer ≡ answerOf (tickOn (from .cells) block figure .answer)))
   pub third-third-demand : (history : List ℕ) (ports : ℕ) (block : List ℕ) (less more : ℕ) → One Verdict (λ r. r ≡ cond (asks ports block less more) Held NotAsked)
 
 one : (A : Type 0) (x r s : A) → r ≡ x → s ≡ x → r ≡ s
@@ -33,7 +31,6 @@ one A x r s p q = p ∙ sym q
 pub unique : Unique
 unique =
     record {
-      history-accepted = λ answer. one Bool (accepted answer);
       history-run = λ history ports r s p q. let c = p .0 ∙ sym (q .0) in let m = p .1 ∙ sym (q .1) in λ k. record { cells = c k; shown = m k };
       history-tick-from =
           λ from block figure r s p q.

@@ -1,8 +1,8 @@
-// What is judged of a tick: the masks that it answered, the demands of the ports that they close, and what those ports have shown.
+// What is judged of a tick: its number, the masks that it answered, the demands of the ports that they close, and what those ports have
+// shown.
 use history::BOTH;
+use history::TickAnswer;
 use history::Tried;
-use history::accepted;
-use table::form::Closed;
 ghost use mathlib.Core.Path.{_≡_};
 ghost use mathlib.Core.Bool.{cond};
 ghost use Prim.Native.Nat.{_<_};
@@ -18,18 +18,15 @@ fn bit(mask: u64, p: usize) -> bool
 }
 
 // The port's bit is set in one of the two masks.
-fn closed_in(answer: Closed, p: usize) -> bool
+fn closed_in(answer: TickAnswer, p: usize) -> bool
     requires { ⌜ p < 48 ⌝ }
     ensures { λ r. ⌜ r ≡ closedIn answer p ⌝ }
 {
-    match answer {
-        Closed::Ports(a, b, _) => bit(a, p) | bit(b, p),
-        Closed::Refused(_) => false,
-    }
+    bit(answer.a, p) | bit(answer.b, p)
 }
 
 // No port that the first answer closes is open in the second.
-pub fn none_lost(first: Closed, second: Closed) -> bool
+pub fn none_lost(first: TickAnswer, second: TickAnswer) -> bool
     ensures { λ r. ⌜ r ≡ noneLostIn first second ⌝ }
 {
     let mut none = true;
@@ -41,18 +38,18 @@ pub fn none_lost(first: Closed, second: Closed) -> bool
     none
 }
 
-fn drawn(closed: bool, demand: u16) -> u64
+fn drawn(closed: bool, demand: u16) -> u32
     ensures { λ r. ⌜ (r ≡ cond closed demand 0) × (r < 65536) ⌝ }
 {
-    if closed { demand as u64 } else { 0 }
+    if closed { demand as u32 } else { 0 }
 }
 
 // The sum of the demands of the ports that the answer closes. They stand from cell 104 on.
-fn demands_in(cells: &[u16], answer: Closed) -> u64
+fn demands_in(cells: &[u16], answer: TickAnswer) -> u32
     requires { ⌜ length (now cells) ≡ 728 ⌝ }
     ensures { λ r. ⌜ r ≡ demandsIn (now (cells .entry)) answer ⌝ }
 {
-    let mut sum = 0u64;
+    let mut sum = 0u32;
     let mut p = 0;
     while p < 48 {
         sum += drawn(closed_in(answer, p), cells[104 + p]);
@@ -62,7 +59,7 @@ fn demands_in(cells: &[u16], answer: Closed) -> u64
 }
 
 // No port outside the forced test state is closed unless it has shown both. The states stand from cell 8 on; the code of TEST_MODE is 8.
-fn all_shown(cells: &[u16], shown: &[u8], answer: Closed) -> bool
+fn all_shown(cells: &[u16], shown: &[u8], answer: TickAnswer) -> bool
     requires { ⌜ (length (now cells) ≡ 728) × (length (now shown) ≡ 48) ⌝ }
     ensures { λ r. ⌜ r ≡ allShownIn (now (cells .entry)) (now (shown .entry)) answer ⌝ }
 {
@@ -75,12 +72,15 @@ fn all_shown(cells: &[u16], shown: &[u8], answer: Closed) -> bool
     all
 }
 
-// One tick: it is accepted, the closed ports' demands add up to no more than its figure, and each has shown what it must.
-pub fn sound(tried: Tried, figure: u64) -> bool
+// One tick: it is accepted, which the number 0 says; the closed ports' demands add up to no more than its figure; and each has shown what
+// it must.
+pub fn sound(tried: Tried, figure: u32) -> bool
     ensures { λ r. ⌜ r ≡ soundIn (tried .cells) (tried .shown) (tried .answer) figure ⌝ }
 {
     let cells = tried.cells;
     let shown = tried.shown;
     let answer = tried.answer;
-    accepted(answer) & (demands_in(&cells, answer) <= figure) & all_shown(&cells, &shown, answer)
+    (answer.number == 0)
+        & (demands_in(&cells, answer) <= figure)
+        & all_shown(&cells, &shown, answer)
 }

@@ -19,7 +19,7 @@ fn flags_clear(block: &[u8], ports: usize) -> bool
 }
 
 // Document 01: "1 to 48 Type 2 ports"; "supply figure over 60,000" is refused; "14 bytes a port".
-pub fn asked(ports: u64, block: &[u8], less: u64, more: u64) -> bool
+pub fn asked(ports: u32, block: &[u8], less: u32, more: u32) -> bool
     ensures { λ r. ⌜ r ≡ asks ports (now (block .entry)) less more ⌝ }
 {
     if (ports < 1) | (48 < ports) {

@@ -16,9 +16,9 @@ ghost use mathlib.Core.Bool.{cond};
 ghost use Rattle.verdict.specs.declared.Verdict.the-variants.{Held, NotAsked};
 ghost use Rattle.third.specs.Asks.{asks};
 
-// The history is any bytes. The core's own functions run it from a cold start; then the tick is made twice from the table that was
-// reached, once on each figure.
-pub fn third_demand(history: &[u8], ports: u64, block: &[u8], less: u64, more: u64) -> Verdict
+// The history is any bytes. The C functions run it from a cold start; then the tick, theirs too, is made twice from the table that was
+// reached, once on each figure. Ports and figures are as wide as these functions take them.
+pub fn third_demand(history: &[u8], ports: u32, block: &[u8], less: u32, more: u32) -> Verdict
     ensures { λ r. ⌜ r ≡ cond (asks ports (now (block .entry)) less more) Held NotAsked ⌝ }
 {
     if !asked(ports, block, less, more) {

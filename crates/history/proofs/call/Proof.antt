@@ -1,10 +1,12 @@
 -- `call` makes the call of its kind. Assumes nothing.
 use mathlib.Core.Path.{_∙_, ap}
+use lib.Dec.{eqb}
 use borrow.Author.Needs.{needs}
 use borrow.Author.Tests.{eq-eqb, ne-eqb}
-use Rattle.statements.specs.History.{accepted}
 use Rattle.history.specs.Decode.{callOf}
 use Rattle.history.specs.Lent.{cellsAfter, ranOn}
+use Rattle.history.specs.LentLaws.{zero-accepted}
+use Rattle.history.specs.declared.TickAnswer.{TickAnswer}
 use Rattle.history.proofs.call.Statement.{statement}
 use Rattle.history.proofs.call.Tie as tie
 
@@ -17,14 +19,14 @@ call-spec =
     (λ c. search needs)
     (λ c.
     let k = eq-eqb _ _ (c .before .before .before .before .if1 .taken) in
-    (simp k, c .before .before .write-control .ensures .1 ∙ simp k))
+    (simp k, c .before .before .ipaqsuni-write-control .ensures .1 ∙ simp k))
     (λ c κs. search needs)
     (λ c. search needs)
     (λ c.
-    let t = c .before .before .before .before in
+    let t = c .before .before .before .before .before in
     let n0 = ne-eqb _ _ (t .before .if1 .left) in
     let k = eq-eqb _ _ (t .if2 .taken) in
-    (simp (n0, k), c .before .before .read-status .ensures .1 ∙ simp (n0, k)))
+    (simp (n0, k), c .before .before .ipaqsuni-read-status .ensures .1 .0 ∙ simp (n0, k)))
     (λ c κs. search needs)
     (λ c. search needs)
     (λ c.
@@ -32,8 +34,7 @@ call-spec =
     let n0 = ne-eqb _ _ (t .before .before .if1 .left) in
     let n1 = ne-eqb _ _ (t .before .if2 .left) in
     let k = eq-eqb _ _ (t .if3 .taken) in
-    (simp (n0, n1, k), c .before .before .request .ensures .1 ∙ simp (n0, n1, k)))
-    (λ c κs. search needs)
+    (simp (n0, n1, k), c .before .before .ipaqsuni-request .ensures .1 ∙ simp (n0, n1, k)))
     (λ c κs. search needs)
     (λ c. search needs)
     (λ c.
@@ -42,4 +43,4 @@ call-spec =
     let n0 = ne-eqb _ _ (e .before .before .if1 .left) in
     let n1 = ne-eqb _ _ (e .before .if2 .left) in
     let n2 = ne-eqb _ _ (e .if3 .left) in
-    (c .accepted .ensures ∙ ap accepted (t .tick .ensures .0) ∙ simp (n0, n1, n2), t .tick .ensures .1 ∙ simp (n0, n1, n2))))
+    (ap (λ (x : TickAnswer). eqb (x .number) 0) (t .tick .ensures .0) ∙ zero-accepted _ _ _ ∙ simp (n0, n1, n2), t .tick .ensures .1 ∙ simp (n0, n1, n2))))

@@ -22,7 +22,7 @@ run-spec =
     μ-loop
     (λ c. search needs)
     (λ c κs. search needs)
-    (λ c. (search needs, decoded-cold _ _ _ _ (c .before .cold-start .ensures .1) refl))
+    (λ c. (search needs, decoded-cold _ _ _ _ (c .before .ipaqsuni-cold-start .ensures .1) refl))
     (λ c. omega arith)
     (λ c. omega arith)
     (λ c κs. omega arith)

@@ -1,9 +1,11 @@
 -- `tick_from` makes a tick and notes what it showed. Assumes nothing.
 use mathlib.Core.Path.{_∙_, ap}
+use lib.Dec.{eqb}
 use borrow.Author.Needs.{needs}
-use Rattle.statements.specs.History.{accepted}
 use Rattle.history.specs.Lent.{cellsAfter, ranOn}
+use Rattle.history.specs.LentLaws.{zero-accepted}
 use Rattle.history.specs.Running.{noted-as}
+use Rattle.history.specs.declared.TickAnswer.{TickAnswer}
 use Rattle.history.proofs.tick_from.Statement.{statement}
 use Rattle.history.proofs.tick_from.Tie as tie
 
@@ -15,10 +17,8 @@ tick-from-spec =
     (λ c. search needs)
     (λ c κs. search needs)
     (λ c. search needs)
-    (λ c κs. search needs)
     (λ c. search needs)
     (λ c κs. search needs)
     (λ c.
-    let a = c .before .before .before in
-    let t = a .before .before .before in
-    (t .tick .ensures .1, (noted-as _ _ _ _ _ _ (c .before .note .ensures) (a .accepted .ensures ∙ ap accepted (t .tick .ensures .0)), t .tick .ensures .0))))
+    let told = c .before .before .before .before .before .before .tick .ensures in
+    (told .1, (noted-as _ _ _ _ _ _ (c .before .note .ensures) (ap (λ (x : TickAnswer). eqb (x .number) 0) (told .0) ∙ zero-accepted _ _ _), told .0))))

@@ -55,7 +55,7 @@ third-demand-spec =
     (not-true (c .before .sound2 .result) (c .if3 .taken))))
     (λ c κs. search needs)
     (λ c.
-    let b = c .before .before .before .before .before .before in
+    let b = c .before .before .before .before .before .before .before .before in
     let t = b .before .tick-from .ensures in
     let u = b .tick-from2 .ensures in
     let r = b .before .before .run .ensures in
@@ -64,4 +64,4 @@ third-demand-spec =
     ∙ ap₂ noneLostIn (answer-in _ _ _ _ _ _ _ _ _ (r .0) (r .1) (t .0) (t .1 .0) (t .1 .1)) (answer-in _ _ _ _ _ _ _ _ _ (r .0) (r .1) (u .0) (u .1 .0) (u .1 .1))
     ∙ loses-none _ _ _ _ (so b) _)
     (not-true (c .before .none-lost .result) (c .if4 .taken))))
-    (λ c. simp (is-asked (c .before .before .before .before .before .before))))
+    (λ c. simp (is-asked (c .before .before .before .before .before .before .before .before))))

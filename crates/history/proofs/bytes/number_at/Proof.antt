@@ -1,4 +1,4 @@
--- `number_at` is its four words. Assumes nothing.
+-- `number_at` is its two words. Assumes nothing.
 use borrow.Author.Needs.{needs}
 use Rattle.history.specs.Decode.{numberAt}
 use Rattle.history.proofs.bytes.number_at.Statement.{statement}
@@ -13,13 +13,6 @@ number-at-spec =
     (λ c. search needs)
     (λ c. search needs)
     (λ c κs. search needs)
-    (λ c. search needs)
-    (λ c. search needs)
-    (λ c κs. search needs)
-    (λ c. search needs)
-    (λ c. search needs)
-    (λ c κs. search needs)
-    (λ c. search needs)
     (λ c. search needs)
     (λ c. search needs)
     (λ c. search needs))

@@ -10,13 +10,13 @@ use lib.ListN.{getD}
 use borrow.Author.Needs.{needs}
 use denote.Ref.{now}
 use Rattle.lists.specs.Every.{every, every-next}
-use Rattle.table.specs.declared.form.Closed.{Closed}
+use Rattle.history.specs.declared.TickAnswer.{TickAnswer}
 use Rattle.third.specs.Answers.{closedIn, allShownIn}
 use Rattle.third.proofs.answers.all_shown.Statement.{statement}
 use Rattle.third.proofs.answers.all_shown.Tie as tie
 
 -- what is looked at at one place
-abbrev shownAt : List ℕ → List ℕ → Closed → ℕ → Bool
+abbrev shownAt : List ℕ → List ℕ → TickAnswer → ℕ → Bool
 shownAt l marks x q = (not (closedIn x q) || eqb (getD l (8 + q) 0) 8) || eqb (getD marks q 0) 3
 
 abbrev Inv-loop : tie.InvT-loop

@@ -9,12 +9,12 @@ use lib.ListN.{getD}
 use borrow.Author.Needs.{needs}
 use denote.Ref.{now}
 use Rattle.lists.specs.Total.{total, total-next}
-use Rattle.table.specs.declared.form.Closed.{Closed}
+use Rattle.history.specs.declared.TickAnswer.{TickAnswer}
 use Rattle.third.specs.Answers.{closedIn, demandsIn}
 use Rattle.third.proofs.answers.demands_in.Statement.{statement}
 use Rattle.third.proofs.answers.demands_in.Tie as tie
 
-abbrev drawn : List ℕ → Closed → ℕ → ℕ
+abbrev drawn : List ℕ → TickAnswer → ℕ → ℕ
 drawn l x q = cond (closedIn x q) (getD l (104 + q) 0) 0
 
 abbrev Inv-loop : tie.InvT-loop

@@ -2,7 +2,7 @@
 use mathlib.Core.Path.{ap, ap₂}
 use mathlib.Core.Bool.{_&&_}
 use Prim.Native.Nat.{ℕ}
-use lib.Dec.{leb}
+use lib.Dec.{eqb, leb}
 use borrow.Author.Needs.{needs}
 use Rattle.third.specs.Answers.{soundIn}
 use Rattle.third.proofs.answers.sound.Statement.{statement}
@@ -13,7 +13,6 @@ unfolding soundIn
 sound-spec =
     tie.close
     (tie.spec
-    (λ c κs. search needs)
     (λ c. search needs)
     (λ c κs. search needs)
     (λ c. search needs)
@@ -21,5 +20,5 @@ sound-spec =
     (λ c κs. search needs)
     (λ c.
     let d = c .before .before .before in
-    let t = d .before .before in
-    ap₂ _&&_ (ap₂ _&&_ (t .accepted .ensures) (ap (λ (n : ℕ). leb n (t .before .before .before .args .figure)) (d .demands-in .ensures))) (c .all-shown .ensures)))
+    let a = d .before .before .before .before .before .before .args in
+    ap₂ _&&_ (ap (λ (n : ℕ). eqb (a .tried .answer .number) 0 && leb n (a .figure)) (d .demands-in .ensures)) (c .all-shown .ensures)))
