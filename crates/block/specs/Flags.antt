@@ -1,12 +1,10 @@
 -- The flags of a sample block, as a tick reads them into a lane of 48 numbers.
 -- Assumes nothing.
-use Prim.Native.Nat.{ℕ, _+_, _*_, _≤_}
-use mathlib.Core.Path.{_≡_}
-use mathlib.Core.Bool.{Bool, true, cond, not, _&&_}
+use Prim.Native.Nat.{ℕ, _+_, _*_}
+use mathlib.Core.Bool.{Bool, cond, not, _&&_}
 use mathlib.Core.List.{List}
 use lib.Dec.{ltb, leb, eqb}
 use lib.ListN.{length, getD, set}
-use borrow.Author.Tests.{le-leb, eq-eqb}
 use Rattle.lists.specs.Every.{every}
 use Rattle.lists.specs.Places.{tabulate}
 use Rattle.sample.specs.Sample.{sampleAt, reservedFlags}
@@ -50,17 +48,3 @@ abbrev pub eightLaid : List ℕ → ℕ → List ℕ → List ℕ
 eightLaid block i lane =
     let at : ℕ → List ℕ → List ℕ = λ p l. set l p (flagsOfPort block p) in
     at (i + 7) (at (i + 6) (at (i + 5) (at (i + 4) (at (i + 3) (at (i + 2) (at (i + 1) (at i lane)))))))
-
--- ---- where they fit
-module _ (n : ℕ) (block lane : List ℕ) (few : n ≤ 48) (sized : length block ≡ 14 * n) (long : length lane ≡ 48) where
-  fits : flagsFit n block lane ≡ true
-  unfolding flagsFit
-  fits = simp (le-leb n 48 few, eq-eqb _ _ sized, eq-eqb _ _ long)
-
-  pub fit-clean : flagsClean n block lane ≡ flagsFine n block
-  unfolding flagsClean
-  fit-clean = simp fits
-
-  pub fit-laid : flagsLaid n block lane ≡ flagLane n block lane
-  unfolding flagsLaid
-  fit-laid = simp fits

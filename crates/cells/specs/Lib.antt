@@ -1,10 +1,5 @@
 pub mod Cells
-pub mod CodeLaws
 pub mod Codes
 pub mod Laws
 pub mod Lent
-pub mod LentLaws
-pub mod Pass
-pub mod Round
-pub mod Single
 pub mod Writes

@@ -8,7 +8,7 @@ use native.Mathlib.Nat.{add-assoc}
 use lib.Dec.{eqb}
 use lib.ListN.{getD}
 use borrow.Author.Tests.{eqb-true}
-use Rattle.lists.specs.Tests.{and-left, and-right}
+use Rattle.lists.proofs.Tests.{and-left, and-right}
 use Rattle.header.specs.Header.{standsAt, fixedAt}
 
 module _ (b : List ℕ) (at : ℕ) where

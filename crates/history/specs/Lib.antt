@@ -1,11 +1,6 @@
 pub mod Decode
 pub mod EveryHistory
 pub mod Lent
-pub mod LentLaws
 pub mod MarkLaws
 pub mod Marks
-pub mod Plain
-pub mod Readings
-pub mod Running
 pub mod Spelled
-pub mod States

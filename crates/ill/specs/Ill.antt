@@ -1,20 +1,10 @@
 -- Refusal 13 of lent cells, condition by condition, and that well-made cells are those of which none holds.
 -- Assumes nothing.
-use Prim.Native.Nat.{ℕ, _+_}
-use mathlib.Core.Path.{_≡_, refl, sym, _∙_, ap, ap₂}
-use mathlib.Core.Bool.{Bool, true, false, not, _&&_, _||_, Bool·not-not}
+use Prim.Native.Nat.{ℕ}
+use mathlib.Core.Bool.{Bool, not, _||_}
 use mathlib.Core.List.{List}
-use lib.Dec.{eqb, leb, ltb}
-use lib.ListN.{length, getD}
-use borrow.Author.Tests.{eq-eqb}
-use Rattle.lists.specs.Every.{every}
-use Rattle.lists.specs.Tests.{not-leb, not-ltb, not-zero}
-use Rattle.power.specs.Power.{atMost}
-use Rattle.table.specs.Head.{wellHead}
-use Rattle.table.specs.WellMade.{illPort, illMade, wellPort, wellMade}
-use Rattle.cells.specs.Cells.{cellsLong, countCell, supplyCell, portOf, tableOf, portHolds, isTable}
-use Rattle.well.specs.Judged.{headCells, wellCells, portFine}
-use Rattle.well.specs.Laws.{well-cells}
+use Rattle.table.specs.WellMade.{illPort, illMade}
+use Rattle.cells.specs.Cells.{portOf, tableOf, portHolds, isTable}
 
 -- a port with a state or a latch that there is not, or "in a port below the count, a counter over 2,000, .."
 unfoldable pub illAt : List ℕ → ℕ → Bool
@@ -23,41 +13,3 @@ illAt l p = not (portHolds l p) || illPort (portOf l p)
 -- "13 first, in every call that takes a table": cells that are no table, or an "ill-made table"
 unfoldable pub illCells : List ℕ → Bool
 illCells l = not (isTable l) || illMade (tableOf l)
-
-not-and : (a b : Bool) → (not a || b) ≡ not (a && not b)
-not-and true b = sym (Bool·not-not b)
-not-and false b = refl
-
-pub ill-is : (l : List ℕ) → illCells l ≡ not (wellCells l)
-unfolding illCells wellCells wellMade
-ill-is l = not-and (isTable l) (illMade (tableOf l))
-
-pub ill-at-is : (l : List ℕ) (p : ℕ) → illAt l p ≡ not (portFine l p)
-unfolding illAt portFine wellPort
-ill-at-is l p = not-and (portHolds l p) (illPort (portOf l p))
-
--- the head, and then every port
-pub ill-parts : (l : List ℕ) → illCells l ≡ not (headCells l && every (countCell l) (portFine l))
-ill-parts l = ill-is l ∙ ap not (well-cells l)
-
--- one of two is not there
-pub either-is : (a b : Bool) → (not a || not b) ≡ not (a && b)
-either-is true b = refl
-either-is false b = refl
-
--- there are ten states and six latches
-pub holds-not : (l : List ℕ) (p : ℕ) → not (portHolds l p) ≡ (ltb 9 (getD l (8 + p) 0) || leb 64 (getD l (200 + p) 0))
-unfolding portHolds
-holds-not l p = sym (either-is (leb (getD l (8 + p) 0) 9) (ltb (getD l (200 + p) 0) 64)) ∙ ap₂ _||_ (not-leb (getD l (8 + p) 0) 9) (not-ltb (getD l (200 + p) 0) 64)
-
-three : (a b c : Bool) → ((a || b) || c) ≡ not ((not a && not b) && not c)
-three true b c = refl
-three false true c = refl
-three false false c = sym (Bool·not-not c)
-
--- "port count 0 or over 48; a stored supply over 60,000"
-pub head-ill : (l : List ℕ) → length l ≡ cellsLong → ((eqb (countCell l) 0 || ltb 48 (countCell l)) || ltb 60000 (supplyCell l)) ≡ not (headCells l)
-unfolding headCells wellHead atMost
-head-ill l long =
-    three (eqb (countCell l) 0) (ltb 48 (countCell l)) (ltb 60000 (supplyCell l))
-    ∙ simp (eq-eqb _ _ long, not-zero, not-ltb 48, not-ltb 60000)

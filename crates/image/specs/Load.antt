@@ -1,14 +1,11 @@
 -- The table that an image is, and which bytes are one.
-use Prim.Native.Nat.{ℕ, _+_, _*_, _<_}
-use mathlib.Core.Path.{_≡_}
-use mathlib.Core.Bool.{Bool, true, cond, _&&_}
+use Prim.Native.Nat.{ℕ, _+_, _*_}
+use mathlib.Core.Bool.{Bool, cond, _&&_}
 use mathlib.Core.List.{List}
 use lib.Dec.{leb, ltb, eqb}
 use lib.ListN.{length, getD}
-use borrow.Author.Tests.{eqb-true}
-use Rattle.lists.specs.Every.{every, every-at}
+use Rattle.lists.specs.Every.{every}
 use Rattle.lists.specs.Places.{tabulate}
-use Rattle.lists.specs.Tests.{and-left, and-right}
 use Rattle.power.specs.Power.{tenths}
 use Rattle.port.specs.declared.form.Counts.{Counts}
 use Rattle.port.specs.declared.form.Port.{Port}
@@ -54,14 +51,6 @@ portReads bytes at = leb (getD bytes at 0) 9 && ltb (getD bytes (at + 6) 0) 64
 -- an image: 1,014 bytes, a supply that fits the table's type, and every port reads
 unfoldable pub reads : List ℕ → Bool
 reads bytes = eqb (length bytes) 1014 && (eqb (wordAt bytes 2) 0 && every 48 (λ p. portReads bytes (6 + 21 * p)))
-
-pub reads-long : (bytes : List ℕ) → reads bytes ≡ true → length bytes ≡ 1014
-unfolding reads
-reads-long bytes e = eqb-true (length bytes) 1014 (and-left (eqb (length bytes) 1014) _ e)
-
-pub reads-port : (bytes : List ℕ) → reads bytes ≡ true → (p : ℕ) → p < 48 → portReads bytes (6 + 21 * p) ≡ true
-unfolding reads
-reads-port bytes e = every-at 48 (λ p. portReads bytes (6 + 21 * p)) (and-right (eqb (wordAt bytes 2) 0) _ (and-right (eqb (length bytes) 1014) _ e))
 
 -- bytes are restored if they are an image and the cells are as many as a table's, whatever these hold
 unfoldable pub restores : List ℕ → List ℕ → Bool

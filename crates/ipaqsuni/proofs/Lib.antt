@@ -1,3 +1,5 @@
--- What the proofs of several functions use.
+pub mod Calls
 mod Numbers
 mod Saved
+
+-- What the proofs of several functions use.

@@ -9,7 +9,7 @@ use lib.Dec.{eqb, ltb}
 use lib.ListN.{getD}
 use borrow.Author.Tests.{ltb-false}
 use Rattle.lists.specs.Bits.{field}
-use Rattle.lists.specs.Ladder.{ladder-value}
+use Rattle.lists.proofs.Ladder.{ladder-value}
 use Rattle.fields.specs.Fields.{outside, badValues}
 use Rattle.header.specs.Header.{lengthAt}
 use Rattle.reader.specs.Read.{addedIn, formIn, fieldsIn, readRefusals, readOf}

@@ -1,19 +1,17 @@
 -- What a call on a lent table answers as a number, and what it leaves in the places lent for its answer. What it leaves in the cells is
 -- `cellsTold`, `cellsRead`, `cellsTicked` or `cellsCold` of the crate `cells`.
 use Prim.Native.Nat.{ℕ}
-use mathlib.Core.Path.{_≡_}
-use mathlib.Core.Bool.{true, cond}
+use mathlib.Core.Bool.{cond}
 use mathlib.Core.List.{List}
 use lib.Dec.{eqb}
 use lib.ListN.{length}
-use Rattle.lists.specs.Tests.{and-left, and-right}
 use Rattle.table.specs.declared.form.Answer.{Answer}
 use Rattle.table.specs.declared.form.Answer.the-variants.{Done, Refused}
 use Rattle.table.specs.declared.form.Closed.{Closed}
 use Rattle.table.specs.declared.form.Closed.the-variants.{Ports, Refused as NoTick}
 use Rattle.table.specs.declared.form.Status.{Status}
 use Rattle.table.specs.declared.form.Status.the-variants.{Word, Refused as NoStatus}
-use Rattle.image.specs.Image.{imageable, saves}
+use Rattle.image.specs.Image.{imageable}
 use Rattle.image.specs.Load.{restores}
 
 -- include/ipaqsuni.h: "Each function answers 0, or the number of the refusal."
@@ -51,10 +49,6 @@ closedLeft (NoTick number) before = before
 -- include/ipaqsuni.h: "Refused: 13 for cells that no image holds (..), then 1 for a room of another length than IPAQSUNI_IMAGE."
 unfoldable pub saveNumber : List ℕ → List ℕ → ℕ
 saveNumber l room = cond (imageable l) (cond (eqb (length room) 1014) 0 1) 13
-
-pub saves-zero : (l room : List ℕ) → saves l room ≡ true → saveNumber l room ≡ 0
-unfolding saveNumber saves
-saves-zero l room e = simp (and-left (imageable l) (eqb (length room) 1014) e, and-right (imageable l) (eqb (length room) 1014) e)
 
 -- include/ipaqsuni.h: "Refused: 13 for bytes that are no image (..) and for another number of cells than IPAQSUNI_CELLS."
 unfoldable pub restoreNumber : List ℕ → List ℕ → ℕ

@@ -1,29 +1,12 @@
 -- What was lent, compared with what it held before the call.
 -- Assumes nothing.
 use Prim.Native.Nat.{ℕ}
-use mathlib.Core.Path.{_≡_, refl}
-use mathlib.Core.Bool.{Bool, true, _&&_}
+use mathlib.Core.Bool.{Bool, _&&_}
 use mathlib.Core.List.{List}
 use lib.Dec.{eqb}
 use lib.ListN.{length, getD}
-use lib.Seq.{ext-getD}
-use borrow.Author.Tests.{eqb-true, eq-eqb}
-use Rattle.lists.specs.Every.{every, every-at, every-of}
-use Rattle.lists.specs.Tests.{and-left, and-right, and-both}
+use Rattle.lists.specs.Every.{every}
 
 -- as many, and at each place the same number
 unfoldable pub alike : List ℕ → List ℕ → Bool
 alike a b = eqb (length a) (length b) && every (length a) (λ k. eqb (getD a k 0) (getD b k 0))
-
--- that is, the same list
-pub alike-is : (a b : List ℕ) → alike a b ≡ true → a ≡ b
-unfolding alike
-alike-is a b e =
-    let long = and-left (eqb (length a) (length b)) (every (length a) (λ k. eqb (getD a k 0) (getD b k 0))) e in
-    let each = and-right (eqb (length a) (length b)) (every (length a) (λ k. eqb (getD a k 0) (getD b k 0))) e in
-    ext-getD 0 a b (eqb-true (length a) (length b) long) (λ k h. eqb-true (getD a k 0) (getD b k 0) (every-at (length a) (λ k. eqb (getD a k 0) (getD b k 0)) each k h))
-
--- and every list is alike itself: whatever is lent, there is a `before` with which a program is asked
-pub alike-self : (a : List ℕ) → alike a a ≡ true
-unfolding alike
-alike-self a = and-both _ _ (eq-eqb (length a) (length a) refl) (every-of (length a) (λ k. eqb (getD a k 0) (getD a k 0)) (λ k h. eq-eqb (getD a k 0) (getD a k 0) refl))

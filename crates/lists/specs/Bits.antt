@@ -1,10 +1,7 @@
 -- Bits and fields of a word, as a document numbers them: bit 0 is the lowest.
 -- Assumes nothing.
-use Prim.Native.Nat.{ℕ, _*_, _/_, _%_, _^_, _≤_}
-use mathlib.Core.Path.{_≡_}
+use Prim.Native.Nat.{ℕ, _*_, _/_, _%_, _^_}
 use mathlib.Core.Bool.{Bool, true, false, cond}
-use native.Mathlib.Nat.{div-one}
-use native.Mathlib.Omega.{arith}
 use lib.Dec.{eqb, leb}
 
 -- bit k of n is 1
@@ -24,15 +21,6 @@ abbrev pub one : Bool → ℕ
 one true = 1
 one false = 0
 
-pub one-small : (b : Bool) → one b ≤ 1
-one-small true = omega arith
-one-small false = omega arith
-
--- the flag that a number of one bit says
-pub one-says : (b : Bool) (n : ℕ) → n ≡ one b → eqb n 1 ≡ b
-one-says true n e = rw e
-one-says false n e = rw e
-
 -- what a flag counts at place k
 abbrev pub place : ℕ → Bool → ℕ
 place k b = one b * 2 ^ k
@@ -40,8 +28,3 @@ place k b = one b * 2 ^ k
 -- what two bits choose among four, in the order of their codes
 abbrev pub choose : {X : Type 0} → X → X → X → X → ℕ → X
 choose x0 x1 x2 x3 n = cond (eqb n 0) x0 (cond (eqb n 1) x1 (cond (eqb n 2) x2 x3))
-
--- the lowest bits of a word
-pub field-low : (w n : ℕ) → field 0 w n ≡ n % 2 ^ w
-unfolding field
-field-low w n = simp div-one

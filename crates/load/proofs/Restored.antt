@@ -10,16 +10,16 @@ use lib.Dec.{leb, ltb}
 use lib.ListN.{length, getD, set, replicate, length-set, length-replicate, getD-replicate}
 use lib.Seq.{getD-set-other}
 use borrow.Author.Tests.{leb-true, ltb-true}
-use Rattle.lists.specs.Places.{getD-tabulate}
-use Rattle.lists.specs.Tests.{and-left, and-right}
+use Rattle.lists.proofs.Places.{getD-tabulate}
+use Rattle.lists.proofs.Tests.{and-left, and-right}
 use Rattle.port.specs.States.{codeOf}
 use Rattle.port.specs.declared.form.Port.{Port}
 use Rattle.table.specs.Form.{noPort, portAt}
 use Rattle.cells.specs.Cells.{portOf, portHolds, written, cellsOf}
-use Rattle.cells.specs.CodeLaws.{code-again, latches-again}
+use Rattle.cells.proofs.CodeLaws.{code-again, latches-again}
 use Rattle.cells.specs.Codes.{stateOf, latchByte, latchesOf}
-use Rattle.cells.specs.Laws.{written-self, written-cong, written-long}
-use Rattle.cells.specs.Pass.{stage, pass-none, pass-more, pass-all}
+use Rattle.cells.proofs.Laws.{written-self, written-cong, written-long}
+use Rattle.cells.proofs.Pass.{stage, pass-none, pass-more, pass-all}
 use Rattle.cells.specs.Writes.{withPortCells}
 use Rattle.image.specs.Load.{wordAt, portIn, portReads, tableIn}
 

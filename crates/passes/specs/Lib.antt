@@ -1,9 +1,3 @@
-pub mod FlagSigns
-pub mod Judging
-pub mod Moving
 pub mod OnCells
 pub mod Passes
-pub mod Settling
 pub mod Tick
-pub mod Ticking
-pub mod Wells

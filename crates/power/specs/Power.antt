@@ -1,8 +1,6 @@
 -- Document 01: "Power is a kind of its own, counted in tenths of a watt."
-use Prim.Native.Nat.{ℕ, _+_, _<_, _^_, min}
-use mathlib.Core.Path.{_≡_, ap}
+use Prim.Native.Nat.{ℕ, _+_, min}
 use mathlib.Core.Bool.{Bool, cond}
-use native.Mathlib.Omega.{arith}
 use lib.Dec.{leb, ltb, eqb}
 use Rattle.power.specs.declared.Power.{Power}
 use Rattle.power.specs.declared.Sum.{Sum}
@@ -47,18 +45,9 @@ sumOf n = record { 0 = n }
 unfoldable pub plus : Sum → Power → Sum
 plus s p = sumOf (min (s .0 + p .0) 4294967295)
 
--- a sum that does not reach the end of its type is the sum
-pub plus-exact : (n : ℕ) (p : Power) → n + p .0 < 2 ^ 32 → plus (sumOf n) p ≡ sumOf (n + p .0)
-unfolding plus
-plus-exact n p h = ap sumOf (omega arith)
-
 -- two sums in one, with the same end
 unfoldable pub join : Sum → Sum → Sum
 join a b = sumOf (min (a .0 + b .0) 4294967295)
-
-pub join-exact : (m n : ℕ) → m + n < 2 ^ 32 → join (sumOf m) (sumOf n) ≡ sumOf (m + n)
-unfolding join
-join-exact m n h = ap sumOf (omega arith)
 
 -- a sum of demands is at most a supply
 unfoldable pub fits : Sum → Power → Bool

@@ -1,3 +1,1 @@
-pub mod Quick
 pub mod Sweep
-pub mod Swept

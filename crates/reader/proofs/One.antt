@@ -9,7 +9,7 @@ use native.Mathlib.Omega.{arith}
 use lib.Dec.{eqb}
 use lib.ListN.{length}
 use borrow.Author.Tests.{eqb-true}
-use Rattle.lists.specs.Tests.{and-left, and-right, or-either}
+use Rattle.lists.proofs.Tests.{and-left, and-right, or-either}
 use Rattle.header.specs.Header.{lengthAt, sizeAt, isPower}
 use Rattle.reader.specs.Read.{exactlyOne}
 

@@ -12,7 +12,7 @@ use Rattle.header.specs.Header.{sizeAt, isPower}
 use Rattle.search.specs.Search.{isCut, powers, powersIn, partAt, searchOf}
 use Rattle.walk.specs.Walk.{stepOf, Walk, ended, tlv, walkFrom}
 use Rattle.search.specs.Seen.{another, notedOf, answerOf}
-use Rattle.walk.specs.Walked.{whole, walk-ended, walk-cut, walk-tlv}
+use Rattle.walk.proofs.Walked.{whole, walk-ended, walk-cut, walk-tlv}
 use Rattle.walk.specs.declared.Step.the-variants.{End, Cut, Tlv}
 use Rattle.search.specs.declared.Seen.{Seen}
 use Rattle.search.specs.declared.Seen.the-variants.{Nothing, One, More}

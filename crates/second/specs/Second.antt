@@ -10,11 +10,12 @@ use lib.Dec.{eqb, leb, ltb}
 use lib.ListN.{getD}
 use borrow.Author.Tests.{lt-ltb, le-ltb, le-leb, lt-leb, eq-eqb, eqb-true, eqb-false}
 use Rattle.lists.specs.Bits.{bit, field, one, choose}
-use Rattle.lists.specs.Count.{count, count-either}
-use Rattle.lists.specs.Every.{every-of}
-use Rattle.lists.specs.Places.{side}
+use Rattle.lists.specs.Count.{count}
+use Rattle.lists.proofs.Count.{count-either}
+use Rattle.lists.proofs.Every.{every-of}
+use Rattle.lists.proofs.Places.{side}
 use Rattle.lists.specs.Tests.{choice}
-use Rattle.lists.specs.Total.{total-cong, total-less}
+use Rattle.lists.proofs.Total.{total-cong, total-less}
 use Rattle.power.specs.Power.{forced, tenths}
 use Rattle.power.specs.declared.Power.{Power}
 use Rattle.sample.specs.Sample.{sampleAt}
@@ -27,36 +28,39 @@ use Rattle.port.specs.declared.form.Port.{Port}
 use Rattle.port.specs.declared.form.Reading.{Reading}
 use Rattle.port.specs.declared.form.State.{State}
 use Rattle.port.specs.declared.form.State.the-variants.{Disabled, Idle, Detecting, Backoff, Classifying, PowerUp, PowerOn, ErrorDelay, TestMode, TestError}
-use Rattle.outcomes.specs.Outcomes.{step-outcome}
+use Rattle.outcomes.proofs.Outcomes.{step-outcome}
 use Rattle.diagram.specs.Step.{step}
 use Rattle.settling.specs.Settle.{granted, shed, settled}
 use Rattle.block.specs.Digest.{digest}
 use Rattle.table.specs.Drawn.{closedAt}
 use Rattle.table.specs.Form.{portAt}
-use Rattle.table.specs.Laws.{well-count}
+use Rattle.table.proofs.Laws.{well-count}
 use Rattle.table.specs.WellMade.{wellMade}
 use Rattle.table.specs.declared.form.Closed.{Closed}
 use Rattle.table.specs.declared.form.Closed.the-variants.{Ports, Refused}
 use Rattle.table.specs.declared.form.Table.{Table}
 use Rattle.table.specs.declared.form.Ticked.{Ticked}
 use Rattle.cells.specs.Cells.{tableOf, portOf, isTable, isOfPort}
-use Rattle.cells.specs.CodeLaws.{closed-code}
+use Rattle.cells.proofs.CodeLaws.{closed-code}
 use Rattle.cells.specs.Codes.{stateOf}
-use Rattle.cells.specs.Laws.{table-at}
+use Rattle.cells.proofs.Laws.{table-at}
 use Rattle.cells.specs.Lent.{cellsTicked}
-use Rattle.cells.specs.Round.{table-long}
-use Rattle.boards.specs.MaskLaws.{closed-bits}
+use Rattle.cells.proofs.Round.{table-long}
+use Rattle.boards.proofs.MaskLaws.{closed-bits}
 use Rattle.boards.specs.Masks.{namesA, namesB, maskA, maskB}
 use Rattle.boards.specs.Sharing.{rankAt, keptAt}
 use Rattle.passes.specs.OnCells.{tickOn}
 use Rattle.passes.specs.Tick.{movedAt, tickRefusals, tick}
 use Rattle.ipaqsuni.specs.Calls.{tickNumber}
-use Rattle.interface.specs.Laws.{Are, FairTick, next-call, zero-ticked, calls, untouched}
-use Rattle.interface.specs.Statement1C.{firstNumber, tickList, statement-1-c}
+use Rattle.interface.specs.Laws.{Are, FairTick}
+use Rattle.interface.proofs.Laws.{next-call, zero-ticked, calls, untouched}
+use Rattle.interface.specs.Statement1C.{firstNumber, tickList}
+use Rattle.interface.proofs.Statement1C.{statement-1-c}
 use Rattle.statements.specs.History.{accepted}
-use Rattle.statements.specs.Kept.{tick-well}
-use Rattle.statements.specs.Reached.{Ran, Stopped, tick-told, in-range}
-use Rattle.statements.specs.Statement2.{Ticks, moves, statement-2}
+use Rattle.statements.proofs.Kept.{tick-well}
+use Rattle.statements.proofs.Reached.{Ran, Stopped, tick-told, in-range}
+use Rattle.statements.specs.Statement2.{Ticks, moves}
+use Rattle.statements.proofs.Statement2.{statement-2}
 use Rattle.second.specs.Answers.{agree, closedCell, namedCell, bitsRight, apart, answerRight}
 use Rattle.second.specs.Kept.{mayChange, restKept}
 

@@ -1,13 +1,10 @@
 -- What the program looks at once a frame is written.
 -- Assumes nothing.
-use Prim.Native.Nat.{ℕ, _-_}
-use mathlib.Core.Path.{_≡_, ap₂}
+use Prim.Native.Nat.{ℕ}
 use mathlib.Core.Bool.{Bool, false, cond, not, _&&_}
 use mathlib.Core.List.{List}
-use native.Mathlib.Omega.{arith}
 use lib.Dec.{eqb, ltb}
-use lib.ListN.{length, take, drop, length-drop}
-use lib.Seq.{take-all}
+use lib.ListN.{length, take, drop}
 use Rattle.fields.specs.declared.Fields.{Fields}
 use Rattle.fields.specs.declared.Form.{Form}
 use Rattle.fields.specs.declared.Form.the-variants.{Short, Long}
@@ -44,10 +41,3 @@ rewrittenRight bytes n room before =
     cond (ltb (length room) n) false
     (cond (ltb (length before) n) false
     (alike bytes (take n room) && alike (drop n before) (drop n room)))
-
--- the part of a list from n on, as a slice lends it
-to-the-end : (n : ℕ) (l : List ℕ) → take (length l - n) (drop n l) ≡ drop n l
-to-the-end n l = take-all (length l - n) (drop n l) (omega (arith, length-drop n l))
-
-pub from-there-on : (n : ℕ) (a b : List ℕ) → alike (take (length a - n) (drop n a)) (take (length b - n) (drop n b)) ≡ alike (drop n a) (drop n b)
-from-there-on n a b = ap₂ alike (to-the-end n a) (to-the-end n b)

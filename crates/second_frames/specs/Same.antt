@@ -1,9 +1,7 @@
 -- Two TLVs' fields, compared one by one. That this means the same fields is in `Means`.
 -- Assumes nothing.
-use mathlib.Core.Path.{_≡_, refl}
 use mathlib.Core.Bool.{Bool, true, false, _&&_}
 use lib.Dec.{eqb}
-use borrow.Author.Tests.{eq-eqb}
 use Rattle.fields.specs.declared.Added.{Added}
 use Rattle.fields.specs.declared.Fields.{Fields}
 use Rattle.fields.specs.declared.Form.{Form}
@@ -24,15 +22,3 @@ sameForm (Long a) (Long b) = sameAdded a b
 -- "three octets kept as they are (support, pair, class)"
 unfoldable pub sameFields : Fields → Fields → Bool
 sameFields x y = ((eqb (x .support) (y .support) && eqb (x .pair) (y .pair)) && eqb (x .class) (y .class)) && sameForm (x .form) (y .form)
-
--- ---- fields are the same as themselves
-
-form-self : (x : Form) → sameForm x x ≡ true
-unfolding sameForm sameAdded
-form-self Short = refl
-form-self (Long a) =
-    simp (eq-eqb (a .kind) (a .kind) refl, eq-eqb (a .source) (a .source) refl, eq-eqb (a .priority) (a .priority) refl, eq-eqb (a .requested) (a .requested) refl, eq-eqb (a .allocated) (a .allocated) refl)
-
-pub fields-self : (x : Fields) → sameFields x x ≡ true
-unfolding sameFields
-fields-self x = simp (eq-eqb (x .support) (x .support) refl, eq-eqb (x .pair) (x .pair) refl, eq-eqb (x .class) (x .class) refl, form-self (x .form))

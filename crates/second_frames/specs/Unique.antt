@@ -2,7 +2,7 @@
 -- room. The promise stands here in the words of the source up to names, as in `Unique` of the crate `statements`; `tools/public` compares.
 -- Assumes nothing.
 use Prim.Native.Nat.{ℕ}
-use mathlib.Core.Path.{_≡_, sym, _∙_}
+use mathlib.Core.Path.{_≡_}
 use mathlib.Core.Bool.{cond}
 use mathlib.Core.List.{List}
 use Rattle.verdict.specs.declared.Verdict.{Verdict}
@@ -22,6 +22,3 @@ OneWith promise = (r s : Verdict) (b c : List ℕ) → promise r b → promise s
 pub record Unique : Type 0 where
   pub second-frames-second-write : (fields : Fields) (room before : List ℕ) → OneWith (λ r room'. (r ≡ cond (asksWrite fields room before) Held NotAsked) × (room' ≡ cond (asksWrite fields room before) (roomAfter fields room) room))
   pub second-frames-second-read : (bytes : List ℕ) → One Verdict (λ r. r ≡ cond (asksRead bytes) Held NotAsked)
-
-pub unique : Unique
-unique = record { second-frames-second-write = λ fields room before r s b c p q. (p .0 ∙ sym (q .0), p .1 ∙ sym (q .1)); second-frames-second-read = λ bytes r s p q. p ∙ sym q }

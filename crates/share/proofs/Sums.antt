@@ -12,15 +12,19 @@ use lib.Dec.{ltb, leb, eqb}
 use lib.ListN.{length, getD, set, length-set}
 use lib.Seq.{getD-set-same, getD-set-other}
 use borrow.Author.Tests.{lt-ltb, le-ltb, le-leb, lt-leb, eq-eqb, ne-eqb, ltb-true, eqb-true, eqb-false}
-use Rattle.lists.specs.Tests.{passed}
-use Rattle.lists.specs.Total.{total, total-next, total-cong, total-plus, total-bound}
-use Rattle.lists.specs.Places.{side, tabulate, tabulated, length-tabulate, getD-tabulate, tabulate-cong}
-use Rattle.power.specs.Power.{sumOf, plus, plus-exact, join, join-exact, fits}
+use Rattle.lists.proofs.Tests.{passed}
+use Rattle.lists.specs.Total.{total}
+use Rattle.lists.proofs.Total.{total-next, total-cong, total-plus, total-bound}
+use Rattle.lists.specs.Places.{tabulate}
+use Rattle.lists.proofs.Places.{side, tabulated, length-tabulate, getD-tabulate, tabulate-cong}
+use Rattle.power.specs.Power.{sumOf, plus, join, fits}
+use Rattle.power.proofs.PowerLaws.{plus-exact, join-exact}
 use Rattle.power.specs.declared.Power.{Power}
 use Rattle.power.specs.declared.Sum.{Sum}
 use Rattle.share.specs.Share.{claims, before, met, sumWhere, down, keeps, claimedSum}
-use Rattle.share.specs.Passes.{Small, within, slotOf, ofSlot, ofLower, joined}
-use Rattle.share.specs.Laws.{sum-none, met-self, met-before, met-cases, before-rank, before-place, before-trans, before-self}
+use Rattle.share.specs.Passes.{Small, within, slotOf, ofSlot, joined}
+use Rattle.share.proofs.Passes.{ofLower}
+use Rattle.share.proofs.Laws.{sum-none, met-self, met-before, met-cases, before-rank, before-place, before-trans, before-self}
 
 cond-none : (b : Bool) → _≡_ {A = ℕ} (cond b 0 0) 0
 cond-none true = refl

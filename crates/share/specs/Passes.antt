@@ -25,10 +25,6 @@ slotOf rank = cond (ltb rank noClaim) rank noClaim
 unfoldable pub ofSlot : ℕ → (ℕ → ℕ) → (ℕ → ℕ) → ℕ → ℕ
 ofSlot n rank demand k = sumWhere n demand (λ q. eqb (slotOf (rank q)) k)
 
--- the demands of the slots before k
-unfoldable pub ofLower : ℕ → (ℕ → ℕ) → (ℕ → ℕ) → ℕ → ℕ
-ofLower n rank demand k = sumWhere n demand (λ q. ltb (slotOf (rank q)) k)
-
 -- the first k of a list of sums in one
 unfoldable pub joined : List Sum → ℕ → Sum
 joined sums zero = sumOf 0

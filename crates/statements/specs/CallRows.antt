@@ -2,45 +2,31 @@
 -- definitions themselves, so that a limit that is wrong in a definition and in the code alike is refused.
 -- Assumes nothing.
 use Prim.Native.Nat.{ℕ}
-use mathlib.Core.Path.{_≡_, refl}
 use mathlib.Core.Bool.{Bool, true, false}
-use mathlib.Core.List.{List, [], _∷_, _++_, map}
+use mathlib.Core.List.{List, [], _∷_, _++_}
 use lib.ListN.{replicate}
-use Rattle.lists.specs.Bits.{field, above}
-use Rattle.lists.specs.Every.{someBelow}
-use Rattle.lists.specs.Table.{some}
-use Rattle.lists.specs.Total.{total}
-use Rattle.power.specs.Power.{tenths, over, fits}
-use Rattle.class.specs.Class.{budgetOf, isDemand}
-use Rattle.sample.specs.Sample.{wordAt, sampleAt, reservedFlags}
-use Rattle.control.specs.Control.{refused}
-use Rattle.status.specs.Status.{noLatches, statusWord}
+use Rattle.power.specs.Power.{tenths}
+use Rattle.status.specs.Status.{noLatches}
 use Rattle.port.specs.declared.form.Counts.{Counts}
 use Rattle.port.specs.declared.form.Port.{Port}
 use Rattle.port.specs.declared.form.State.{State}
-use Rattle.port.specs.declared.form.State.the-variants.{Disabled, Idle, Detecting, Backoff, Classifying, PowerUp, PowerOn, ErrorDelay, TestMode, TestError}
-use Rattle.port.specs.States.{condition}
-use Rattle.replies.specs.Calls.{coldPort, coldTable, coldStart, sameAlternative, withControl, writeControl, unlatched, statusAt, readStatus, levelOf, demanding, overSupply, request}
-use Rattle.table.specs.Drawn.{draws, closedSum}
-use Rattle.table.specs.Form.{zeroCounts, portAt, withPort, done, refuse, tells, refuseStatus, refuseTick}
-use Rattle.boards.specs.Masks.{answered}
-use Rattle.passes.specs.Tick.{tick, flagsReserved}
-use Rattle.table.specs.WellMade.{illPort, illMade, wellMade}
-use Rattle.table.specs.declared.form.Answer.the-variants.{Done}
-use Rattle.table.specs.declared.form.Status.the-variants.{Word}
+use Rattle.port.specs.declared.form.State.the-variants.{Disabled, Idle, PowerUp, PowerOn}
+use Rattle.replies.specs.Calls.{coldPort, coldStart, writeControl, readStatus, request}
+use Rattle.table.specs.Form.{zeroCounts}
+use Rattle.passes.specs.Tick.{tick}
 use Rattle.table.specs.declared.form.Table.{Table}
 use Rattle.statements.specs.MoveRows.{counts}
 use Rattle.statements.specs.Statement1.{Outcome, value, number, told, statusTold, tickTold}
 
 -- a port with a state, a class, a control word, a demand and counters
-abbrev port : State → ℕ → ℕ → ℕ → Counts → Port
+abbrev pub port : State → ℕ → ℕ → ℕ → Counts → Port
 port s k w d c = record { state = s; class = k; control = w; demand = tenths d; latches = noLatches; counts = c }
 
 abbrev idle : Counts → Port
 idle c = port Idle 0 0x0005 0 c
 
 -- a table of so many ports under a stored supply, with one port at place 0 and another at place 1
-abbrev table : ℕ → ℕ → Port → Port → Table
+abbrev pub table : ℕ → ℕ → Port → Port → Table
 table n supply p q = record { ports = p ∷ q ∷ replicate 46 coldPort; count = n; supply = tenths supply }
 
 -- a port of which one thing alone is in question, at place 0 of a table of one port
@@ -49,7 +35,7 @@ alone p = table 1 0 p coldPort
 
 -- "ill-made table: port count 0 or over 48; a stored supply over 60,000; or, in a port below the count, a counter over 2,000, a class over 4,
 -- a control word that a write refuses with 3, or a demand not 0, 40, 70, 154 or 300"
-pub tables : List (Table × Bool)
+unfoldable pub tables : List (Table × Bool)
 tables =
     (table 0 0 coldPort coldPort, false)
     ∷ (table 1 0 coldPort coldPort, true)
@@ -76,10 +62,6 @@ tables =
     ∷ (table 1 0 coldPort (port Idle 5 0x0005 0 zeroCounts), true)
     ∷ []
 
-pub tables-hold : map (λ (r : Table × Bool). wellMade (r .0)) tables ≡ map (λ (r : Table × Bool). r .1) tables
-unfolding tables wellMade illMade illPort over someBelow portAt refused field above isDemand some
-tables-hold = refl
-
 pub data Question : Type 0 where
   cold : ℕ → Question
   control : Table → ℕ → ℕ → Question
@@ -105,7 +87,7 @@ shared s k d supply = table 2 supply (port s k 0x0005 d zeroCounts) (port PowerO
 abbrev ill : Table
 ill = table 49 0 coldPort coldPort
 
-pub calls : List (Question × Outcome)
+unfoldable pub calls : List (Question × Outcome)
 calls =
     -- "a cold start asked for 0 or over 48 ports"
     (cold 0, number 2)
@@ -148,35 +130,9 @@ calls =
     ∷ (ticks (shared Idle 0 0 0) (samples 63) 60000, value)
     ∷ []
 
-pub calls-hold : map (λ (r : Question × Outcome). meaning (r .0)) calls ≡ map (λ (r : Question × Outcome). r .1) calls
-unfolding calls meaning coldStart coldTable done refuse writeControl sameAlternative withControl withPort request overSupply demanding levelOf budgetOf closedSum draws total fits illMade illPort over someBelow portAt refused field above isDemand some readStatus statusAt tells refuseStatus tick flagsReserved reservedFlags sampleAt wordAt refuseTick answered
-calls-hold = refl
-
--- "value 1..38 means demand 40, ..64 means 70, ..129 means 154, ..255 means 300"
-pub levels-hold : map levelOf (1 ∷ 38 ∷ 39 ∷ 64 ∷ 65 ∷ 129 ∷ 130 ∷ 255 ∷ []) ≡ map tenths (40 ∷ 40 ∷ 70 ∷ 70 ∷ 154 ∷ 154 ∷ 300 ∷ 300 ∷ [])
-unfolding levelOf budgetOf
-levels-hold = refl
-
--- "Condition: 0 in DISABLED, 1 in IDLE, DETECTING, BACKOFF, CLASSIFYING, 2 in POWER_UP, POWER_ON, 3 in TEST_MODE, 4 in ERROR_DELAY, TEST_ERROR.": the
--- status words of ports without a latch in each of the ten states, of class 0
-pub conditions-hold :
-    map (λ (s : State). statusWord noLatches 0 (condition s)) (Disabled ∷ Idle ∷ Detecting ∷ Backoff ∷ Classifying ∷ PowerUp ∷ PowerOn ∷ ErrorDelay ∷ TestMode ∷ TestError ∷ [])
-    ≡ 1 ∷ 3 ∷ 3 ∷ 3 ∷ 3 ∷ 5 ∷ 5 ∷ 9 ∷ 7 ∷ 9 ∷ []
-unfolding statusWord
-conditions-hold = refl
-
 -- "Reading the status returns the word and clears that port's six latches, no more."
-abbrev latched : Port
+abbrev pub latched : Port
 latched = record { state = PowerOn; class = 2; control = 0x0005; demand = tenths 70; latches = record { denied = true; valid = true; invalid = true; short = true; overload = true; absent = true }; counts = counts 1 2 3 4 5 6 7 }
 
-abbrev cleared : Port
+abbrev pub cleared : Port
 cleared = record { state = PowerOn; class = 2; control = 0x0005; demand = tenths 70; latches = noLatches; counts = counts 1 2 3 4 5 6 7 }
-
-pub status-clears : readStatus (table 2 300 latched latched) 1 ≡ record { table = table 2 300 latched cleared; answer = Word 0x1FA5 }
-unfolding readStatus statusAt unlatched tells statusWord withPort illMade illPort over someBelow portAt refused field above isDemand some
-status-clears = refl
-
--- "Accepted, it becomes the port's demand; nothing else changes."
-pub request-changes-its-demand : request (table 2 300 (port PowerOn 3 0x0005 40 zeroCounts) latched) 0 129 ≡ record { table = table 2 300 (port PowerOn 3 0x0005 154 zeroCounts) latched; answer = Done }
-unfolding request overSupply demanding levelOf budgetOf closedSum draws total fits done withPort illMade illPort over someBelow portAt refused field above isDemand some
-request-changes-its-demand = refl

@@ -1,23 +1,14 @@
 -- Document 01, "Sixteen cases to set in a table": the rows, as that paragraph has them, and one statement over them all.
 -- It is of the definitions themselves, so that a definition that is wrong at a row is refused, whatever the code does.
 -- Assumes nothing.
-use mathlib.Core.Path.{refl}
 use mathlib.Core.Bool.{true, false}
 use mathlib.Core.List.{List, [], _∷_}
-use Rattle.lists.specs.Places.{tabulate}
-use Rattle.lists.specs.Total.{total}
-use Rattle.class.specs.Class.{classOf}
-use Rattle.signature.specs.Signature.{outside, byDifferences, signatureOf}
 use Rattle.class.specs.declared.Class.the-variants.{Is, Failure}
 use Rattle.signature.specs.declared.Signature.the-variants.{Valid, Invalid, Open}
-use Rattle.share.specs.Cases.{threeKept}
-use Rattle.share.specs.Share.{claims, before, met, sumWhere, down, keeps}
-use Rattle.search.specs.Search.{isCut, powers, searchOf}
-use Rattle.walk.specs.Walk.{walk, walkFrom}
 use Rattle.search.specs.declared.Searched.the-variants.{Refused}
-use Rattle.statements.specs.Rows.{Row, Holds, meaning, differences, class, sharing, pdu, shows, is-class, stay, searched}
+use Rattle.statements.specs.Rows.{Row, differences, class, sharing, pdu, shows, is-class, stay, searched}
 
-pub cases : List Row
+unfoldable pub cases : List Row
 cases =
     (differences 1900 100, shows Valid)
     ∷ (differences 1899 100, shows Invalid)
@@ -36,7 +27,3 @@ cases =
     ∷ (sharing 0, stay (false ∷ false ∷ false ∷ []))
     ∷ (pdu [], searched (Refused 7))
     ∷ []
-
-pub cases-hold : Holds cases
-unfolding cases meaning signatureOf outside byDifferences classOf threeKept tabulate keeps down sumWhere total met before claims searchOf powers isCut walkFrom walk
-cases-hold = refl

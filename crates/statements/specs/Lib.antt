@@ -1,13 +1,10 @@
 pub mod CallRows
 pub mod Cases
 pub mod History
-pub mod Kept
 pub mod Limits
 pub mod MoveRows
 pub mod OtherBoard
-pub mod Reached
 pub mod Rows
-pub mod Shows
 pub mod Statement1
 pub mod Statement2
 pub mod Statement3

@@ -1,29 +1,21 @@
 -- Rows of our own, in the form of document 01's cases: each limit and constant that its rows leave open, at the limit and one past
 -- it, so that a limit that is wrong in a definition and in the code alike is refused.
 -- Assumes nothing.
-use mathlib.Core.Path.{refl}
 use mathlib.Core.Bool.{true, false}
 use mathlib.Core.List.{List, [], _∷_, _++_}
-use Rattle.lists.specs.Bits.{bit, field, above}
-use Rattle.lists.specs.Table.{some}
-use Rattle.power.specs.Power.{tenths, supplyOf}
+use Rattle.power.specs.Power.{tenths}
 use Rattle.power.specs.declared.Supply.the-variants.{Is as Supply-Is, TooLarge}
-use Rattle.class.specs.Class.{classOf, isFour, classOfTwo, budgetOf, isDemand}
-use Rattle.sample.specs.Sample.{wordAt, sampleAt, sampleOf, flagsOf, reservedFlags}
-use Rattle.signature.specs.Signature.{outside, byDifferences, signatureOf}
 use Rattle.class.specs.declared.Class.the-variants.{Is, Failure}
 use Rattle.sample.specs.declared.Sampled.the-variants.{Is as Whole, Cut}
 use Rattle.signature.specs.declared.Signature.the-variants.{Valid, Invalid, Open}
-use Rattle.control.specs.Control.{enableOf, pairOf, priorityOf, controlOf, refused}
-use Rattle.status.specs.Status.{statusWord}
 use Rattle.control.specs.declared.Enable.the-variants.{Disabled, Enabled, Forced, Reserved}
 use Rattle.control.specs.declared.Pair.the-variants.{Neither, A, B, Both}
 use Rattle.control.specs.declared.Priority.the-variants.{Unknown, Critical, High, Low}
 use Rattle.status.specs.declared.Condition.the-variants.{Disabled as Off, Searching, Delivering, Testing, Faulty}
-use Rattle.statements.specs.Rows.{Row, Holds, meaning, signature, voltage, class, two-currents, budget-of, demand, sample, flags-of, flags-reserved, refusal-3, fields, status, supply, forced-claim, shows, is-class, power, sampled, flags, control, figure, word, test}
+use Rattle.statements.specs.Rows.{Row, signature, voltage, class, two-currents, budget-of, demand, sample, flags-of, flags-reserved, refusal-3, fields, status, supply, forced-claim, shows, is-class, power, sampled, flags, control, figure, word, test}
 
 -- each voltage limit of the signature, the least dV, and currents that stand still or fall
-signatures : List Row
+unfoldable pub signatures : List Row
 signatures =
     (voltage 0, test true)
     ∷ (voltage 2799, test true)
@@ -51,7 +43,7 @@ signatures =
     ∷ []
 
 -- each limit of the class and one past it; what a second current does
-classes : List Row
+unfoldable pub classes : List Row
 classes =
     (class 0, is-class (Is 0))
     ∷ (class 5000, is-class (Is 0))
@@ -78,7 +70,7 @@ classes =
     ∷ []
 
 -- the five budgets, the five demands and their neighbours, the forced claim and the highest supply
-powers : List Row
+unfoldable pub powers : List Row
 powers =
     (budget-of 0, power (tenths 154))
     ∷ (budget-of 1, power (tenths 40))
@@ -110,7 +102,7 @@ powers =
     ∷ []
 
 -- each control word that a write takes, each reserved code, and each reserved bit; the four codes of each field
-controls : List Row
+unfoldable pub controls : List Row
 controls =
     (refusal-3 4, test false)
     ∷ (refusal-3 5, test false)
@@ -169,7 +161,7 @@ controls =
     ∷ []
 
 -- each latch, each condition and each class of a status word
-statuses : List Row
+unfoldable pub statuses : List Row
 statuses =
     (status (record { denied = true; valid = false; invalid = false; short = false; overload = false; absent = false }) 0 Off, word 4097)
     ∷ (status (record { denied = false; valid = true; invalid = false; short = false; overload = false; absent = false }) 0 Off, word 2049)
@@ -191,7 +183,7 @@ statuses =
     ∷ []
 
 -- each flag and each reserved bit of the flags; the fourteen bytes of a sample
-samples : List Row
+unfoldable pub samples : List Row
 samples =
     (flags-of 1, flags (record { «detection_done» = true; «class_done» = false; settled = false; limiting = false; overload = false; load = false }))
     ∷ (flags-of 2, flags (record { «detection_done» = false; «class_done» = true; settled = false; limiting = false; overload = false; load = false }))
@@ -220,9 +212,5 @@ samples =
     ∷ (sample [] 0, sampled Cut)
     ∷ []
 
-pub limits : List Row
+unfoldable pub limits : List Row
 limits = signatures ++ classes ++ powers ++ controls ++ statuses ++ samples
-
-pub limits-hold : Holds limits
-unfolding limits signatures classes powers controls statuses samples meaning signatureOf outside byDifferences classOf isFour classOfTwo budgetOf isDemand some supplyOf refused controlOf enableOf pairOf priorityOf field above statusWord flagsOf reservedFlags sampleOf sampleAt wordAt bit
-limits-hold = refl

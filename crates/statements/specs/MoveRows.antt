@@ -2,21 +2,15 @@
 -- are of the definitions themselves, so that a limit or a way that is wrong in a definition and in the code alike is refused.
 -- Assumes nothing.
 use Prim.Native.Nat.{ℕ}
-use mathlib.Core.Path.{_≡_, refl}
 use mathlib.Core.Bool.{Bool, true, false}
-use mathlib.Core.List.{List, [], _∷_, map}
-use Rattle.lists.specs.Bits.{field}
-use Rattle.lists.specs.Count.{mask}
-use Rattle.lists.specs.Total.{total}
+use mathlib.Core.List.{List, [], _∷_}
 use Rattle.power.specs.Power.{tenths, forced}
-use Rattle.control.specs.Control.{enableOf, pairOf, priorityOf}
-use Rattle.status.specs.Status.{noLatches, join}
+use Rattle.status.specs.Status.{noLatches}
 use Rattle.status.specs.declared.Latches.{Latches}
-use Rattle.port.specs.Entry.{up, during, enter}
 use Rattle.port.specs.Form.{latchDenied, latchValid, latchInvalid, latchShort, latchOverload, latchAbsent}
-use Rattle.diagram.specs.Rules.{idle, detected, detecting, backoff, errorDelay, classed, classifying, stressed, watched, risen, powerUp, powerOn, testMode, testError}
-use Rattle.settling.specs.Settle.{rank, granted, shed, settled}
-use Rattle.diagram.specs.Step.{byState, step}
+use Rattle.diagram.specs.Rules.{backoff}
+use Rattle.settling.specs.Settle.{rank, settled}
+use Rattle.diagram.specs.Step.{step}
 use Rattle.port.specs.declared.form.Classing.{Classing}
 use Rattle.port.specs.declared.form.Classing.the-variants.{NotDone as NotClassed, Failed, Is}
 use Rattle.port.specs.declared.form.Counts.{Counts}
@@ -60,10 +54,10 @@ unloaded = reads NotDone NotClassed false false false false
 abbrev off : ℕ
 off = 0x0004
 
-abbrev on : ℕ
+abbrev pub on : ℕ
 on = 0x0005
 
-abbrev force : ℕ
+abbrev pub force : ℕ
 force = 0x0006
 
 abbrev reserved : ℕ
@@ -129,7 +123,7 @@ latches l s = record { state = s; class = 2; demand = 70; latched = l; asks = fa
 abbrev idle-with : Latches → Goes
 idle-with l = record { state = Idle; class = 2; demand = 0; latched = l; asks = false }
 
-pub rows : List (Before × Goes)
+unfoldable pub rows : List (Before × Goes)
 rows =
     -- "First, in every state: enable 00 goes to DISABLED."
     (from Disabled off 0 quiet, to-disabled)
@@ -207,12 +201,8 @@ rows =
     ∷ (from TestError force 0 limits, to TestError)
     ∷ []
 
-pub rows-hold : map (λ (r : Before × Goes). move (r .0)) rows ≡ map (λ (r : Before × Goes). r .1) rows
-unfolding rows move step byState enableOf pairOf field up during idle detected detecting backoff errorDelay classed classifying stressed watched risen powerUp powerOn testMode testError enter
-rows-hold = refl
-
 -- the counters after a move of a port that has seven different ones
-abbrev before : Counts
+abbrev pub before : Counts
 before = counts 11 22 33 44 55 56 77
 
 unfoldable pub counted : Before → Counts
@@ -221,7 +211,7 @@ counted (from s w n r) = step forced (counting s w before) r .port .counts
 -- "Each counter is set to 0 on the entry named, adds one each tick but stops at 2,000"; "A counter runs only in the states named for it and
 -- otherwise stands still"; "All counters of a state advance before any is compared; none advances in a tick that one of the two enable
 -- rules .. decides."
-pub counters : List (Before × Counts)
+unfoldable pub counters : List (Before × Counts)
 counters =
     (from Detecting off 0 quiet, before)
     ∷ (from Detecting force 0 quiet, before)
@@ -245,10 +235,6 @@ counters =
     ∷ (from TestError force 0 quiet, before)
     ∷ []
 
-pub counters-hold : map (λ (r : Before × Counts). counted (r .0)) counters ≡ map (λ (r : Before × Counts). r .1) counters
-unfolding counters counted step byState enableOf pairOf field up during idle detected detecting backoff errorDelay classed classifying stressed watched risen powerUp powerOn testMode testError enter
-counters-hold = refl
-
 -- the counters of a port that has others before the tick: its state, its control word, its counters, what its sample reads
 pub data Ending : Type 0 where
   ending : State → ℕ → Counts → Reading → Ending
@@ -262,7 +248,7 @@ faulty = reads NotDone NotClassed false true true false
 
 -- in the tick that enters ERROR_DELAY or TEST_ERROR all counters of the state left have advanced, and ERROR_DELAY's own is 0; DETECTING reaches
 -- 500 with its counter; TEST_MODE left because enable is 01 is no tick of the two enable rules, and its two counts run on (our reading)
-pub endings : List (Ending × Counts)
+unfoldable pub endings : List (Ending × Counts)
 endings =
     (ending PowerUp on (counts 11 22 33 44 59 7 77) limits, counts 11 22 0 45 60 0 77)
     ∷ (ending PowerUp on (counts 11 22 33 44 7 59 77) overloads, counts 11 22 0 45 0 60 77)
@@ -275,17 +261,8 @@ endings =
     ∷ (ending TestMode off before does-both, before)
     ∷ []
 
-pub endings-hold : map (λ (r : Ending × Counts). ended (r .0)) endings ≡ map (λ (r : Ending × Counts). r .1) endings
-unfolding endings ended step byState enableOf pairOf field up during idle detected detecting backoff errorDelay classed classifying stressed watched risen powerUp powerOn testMode testError enter
-endings-hold = refl
-
--- a counter stops at 2,000
-pub counter-stops : map up (0 ∷ 1998 ∷ 1999 ∷ 2000 ∷ []) ≡ 1 ∷ 1999 ∷ 2000 ∷ 2000 ∷ []
-unfolding up
-counter-stops = refl
-
 -- a port after its move, with a control word; it asks or does not
-abbrev moved : State → ℕ → Bool → Moved
+abbrev pub moved : State → ℕ → Bool → Moved
 moved s w asks = record { port = port s w 0; latched = noLatches; asks = asks }
 
 pub data Ranks : Type 0 where
@@ -297,7 +274,7 @@ ranked (ranks s u w asks) = rank s (moved u w asks)
 
 -- "ports closed before the tick and still in POWER_UP, POWER_ON or TEST_MODE come first, then those asking. Within each: critical, high,
 -- then low and unknown alike"; 6 is no claim
-pub claims : List (Ranks × ℕ)
+unfoldable pub claims : List (Ranks × ℕ)
 claims =
     (ranks PowerOn PowerOn 0x0015 false, 0)
     ∷ (ranks PowerOn PowerOn 0x0025 false, 1)
@@ -316,10 +293,6 @@ claims =
     ∷ (ranks TestMode TestError 0x0016 false, 6)
     ∷ []
 
-pub claims-hold : map (λ (r : Ranks × ℕ). ranked (r .0)) claims ≡ map (λ (r : Ranks × ℕ). r .1) claims
-unfolding claims ranked rank priorityOf field
-claims-hold = refl
-
 pub data Settles : Type 0 where
   -- the rank of the claim, whether it is kept, the state after the move, whether the port asks
   settles : ℕ → Bool → State → Bool → Settles
@@ -330,11 +303,8 @@ pub record Rests : Type 0 where
   pub demand : ℕ
   pub latches : Latches
 
-abbrev resting : Port → Rests
+abbrev pub resting : Port → Rests
 resting p = record { state = p .state; demand = p .demand .0; latches = p .latches }
-
-unfoldable pub settling-of : Settles → Rests
-settling-of (settles r kept s asks) = resting (settled r kept (moved s on asks) .port)
 
 abbrev stays : State → Rests
 stays s = record { state = s; demand = 70; latches = noLatches }
@@ -344,7 +314,7 @@ denied-idle = record { state = Idle; demand = 0; latches = latchDenied }
 
 -- "An asker kept enters its state; one shed goes to IDLE. A closed port shed goes to IDLE, or from TEST_MODE to TEST_ERROR. Each shed port
 -- latches 12." "Entering IDLE .. sets demand 0, also for a port that is shed, one shed from IDLE included"
-pub rests : List (Settles × Rests)
+unfoldable pub rests : List (Settles × Rests)
 rests =
     (settles 3 true Classifying true, stays PowerUp)
     ∷ (settles 3 false Classifying true, denied-idle)
@@ -360,22 +330,7 @@ rests =
     ∷ (settles 6 false ErrorDelay false, stays ErrorDelay)
     ∷ []
 
-pub rests-hold : map (λ (r : Settles × Rests). settling-of (r .0)) rests ≡ map (λ (r : Settles × Rests). r .1) rests
-unfolding rests settling-of settled granted shed enter join
-rests-hold = refl
-
 -- "consecutive ticks of limiting, and of overload, are counted from POWER_UP's entry"; in TEST_MODE "the same two counts, from its own entry"; a
 -- claim that is shed zeroes no counter
-abbrev asker : State → ℕ → Moved
+abbrev pub asker : State → ℕ → Moved
 asker s w = record { port = counting s w before; latched = noLatches; asks = true }
-
-pub entries-hold :
-    settled 3 true (asker Classifying on) .port .counts ∷ settled 3 true (asker Idle force) .port .counts ∷ settled 3 false (asker Classifying on) .port .counts ∷ []
-    ≡ counts 11 22 33 44 0 0 77 ∷ counts 11 22 33 44 0 0 77 ∷ before ∷ []
-unfolding settled granted shed enter
-entries-hold = refl
-
--- 48 closed ports fill bits 0 to 47 of a mask, and none of bits 48 to 63
-pub full-mask : mask 48 (λ p. true) ≡ 281474976710655
-unfolding mask total
-full-mask = refl

@@ -2,14 +2,9 @@
 -- own here, so that a layout that is wrong in the definitions of reader and writer alike is refused.
 -- Assumes nothing.
 use Prim.Native.Nat.{ℕ}
-use mathlib.Core.Path.{_≡_, refl}
-use mathlib.Core.List.{List, [], _∷_, map}
+use mathlib.Core.List.{List, [], _∷_}
 use lib.ListN.{replicate}
-use Rattle.lists.specs.Bits.{field}
-use Rattle.fields.specs.Fields.{outside, badValues}
-use Rattle.header.specs.Header.{wordAt, typeAt, lengthAt, sizeAt, standsAt, fixedAt, isPower}
-use Rattle.reader.specs.Read.{cut, exactlyOne, addedIn, formIn, fieldsIn, readOf}
-use Rattle.writer.specs.Write.{badCodes, bytesOf, writtenOf, roomAfter}
+use Rattle.writer.specs.Write.{writtenOf, roomAfter}
 use Rattle.fields.specs.declared.Fields.{Fields}
 use Rattle.fields.specs.declared.Form.the-variants.{Short, Long}
 use Rattle.reader.specs.declared.Taken.{Taken}
@@ -37,7 +32,7 @@ fields kind source priority requested allocated =
       form = Long (record { kind = kind; source = source; priority = priority; requested = requested; allocated = allocated });
     }
 
-pub reading-rows : List (List ℕ × Taken)
+unfoldable pub reading-rows : List (List ℕ × Taken)
 reading-rows =
     (short [], Is short-fields)
     -- "7:6 type, 5:4 source, 3:2 .. ignored when read, 1:0 priority"
@@ -57,10 +52,6 @@ reading-rows =
     ∷ (0xFF ∷ 0x07 ∷ 0x00 ∷ 0x12 ∷ 0x0F ∷ 0x02 ∷ 0x0A ∷ 0x0B ∷ 0x0C ∷ [], Refused 6)
     ∷ []
 
-pub reading-rows-hold : map (λ (r : List ℕ × Taken). readOf (r .0)) reading-rows ≡ map (λ (r : List ℕ × Taken). r .1) reading-rows
-unfolding reading-rows readOf cut exactlyOne fieldsIn formIn addedIn badValues outside isPower fixedAt standsAt typeAt lengthAt sizeAt wordAt field
-reading-rows-hold = refl
-
 -- fields handed to the writer with so many bytes of room, each A5
 pub data Question : Type 0 where
   writes : Fields → ℕ → Question
@@ -71,7 +62,7 @@ room n = replicate n 0xA5
 unfoldable pub answer : Question → Written × List ℕ
 answer (writes f n) = (writtenOf f (room n), roomAfter f (room n))
 
-pub writing-rows : List (Question × (Written × List ℕ))
+unfoldable pub writing-rows : List (Question × (Written × List ℕ))
 writing-rows =
     -- "Room past a written TLV keeps its bytes."
     (writes short-fields 9, (Wrote 9, short []))
@@ -88,7 +79,3 @@ writing-rows =
     ∷ (writes (fields 3 3 3 1 255) 13, (NotWritten 1, room 13))
     ∷ (writes short-fields 8, (NotWritten 1, room 8))
     ∷ []
-
-pub writing-rows-hold : map (λ (r : Question × (Written × List ℕ)). answer (r .0)) writing-rows ≡ map (λ (r : Question × (Written × List ℕ)). r .1) writing-rows
-unfolding writing-rows answer writtenOf roomAfter badCodes badValues outside bytesOf
-writing-rows-hold = refl

@@ -8,13 +8,14 @@ use native.Mathlib.Omega.{arith}
 use lib.Dec.{eqb, ltb}
 use lib.ListN.{length, getD}
 use borrow.Author.Tests.{eqb-true, ltb-true}
-use Rattle.lists.specs.Every.{every, every-at}
-use Rattle.lists.specs.Tests.{and-left, and-right}
+use Rattle.lists.specs.Every.{every}
+use Rattle.lists.proofs.Every.{every-at}
+use Rattle.lists.proofs.Tests.{and-left, and-right}
 use Rattle.port.specs.States.{codeOf}
 use Rattle.cells.specs.Cells.{portHolds}
-use Rattle.cells.specs.CodeLaws.{code-again, latches-again}
+use Rattle.cells.proofs.CodeLaws.{code-again, latches-again}
 use Rattle.cells.specs.Codes.{stateOf, latchByte, latchesOf}
-use Rattle.cells.specs.Laws.{holds-state, holds-latches}
+use Rattle.cells.proofs.Laws.{holds-state, holds-latches}
 use Rattle.image.specs.Image.{portSaves, imageable}
 
 module _ (l : List ℕ) (p : ℕ) (e : portSaves l p ≡ true) where

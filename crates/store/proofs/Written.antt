@@ -7,7 +7,7 @@ use Prim.Native.Nat.{ℕ, _+_, _<_}
 use native.Mathlib.Nat.{not-suc-le-zero}
 use native.Mathlib.Omega.{arith}
 use lib.ListN.{length, getD, set}
-use Rattle.lists.specs.Places.{filled-more, tabulated}
+use Rattle.lists.proofs.Places.{filled-more, tabulated}
 use Rattle.table.specs.declared.form.Table.{Table}
 use Rattle.image.specs.Image.{byteAt, imageOf}
 

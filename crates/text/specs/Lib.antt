@@ -1,3 +1,2 @@
-pub mod Laws
 pub mod Room
 pub mod Unique

@@ -2,7 +2,7 @@
 -- The promise stands here in the words of the source up to names, as in `Unique` of the crate `statements`; `tools/public` compares.
 -- Assumes nothing.
 use Prim.Native.Nat.{ℕ}
-use mathlib.Core.Path.{_≡_, sym, _∙_}
+use mathlib.Core.Path.{_≡_}
 use mathlib.Core.List.{List, [], _∷_, _++_}
 use lib.ListN.{length, take}
 use Rattle.parts.specs.Decimal.{numberIn, decimal}
@@ -33,25 +33,3 @@ pub record Unique : Type 0 where
   pub text-hex : (out : List ℕ) (at : ℕ) (bytes : List ℕ) → OneWith ℕ (λ r out'. (r ≡ past out at (hexOf bytes)) × (out' ≡ placed out at (hexOf bytes)))
   pub text-end : (out : List ℕ) (at : ℕ) → OneWith ℕ (λ r out'. (r ≡ past out at (10 ∷ [])) × (out' ≡ placed out at (10 ∷ [])))
   pub text-line : (out : List ℕ) (at : ℕ) (bytes : List ℕ) → OneWith ℕ (λ r out'. (r ≡ past out at (bytes ++ (10 ∷ []))) × (out' ≡ placed out at (bytes ++ (10 ∷ []))))
-
-one : (A : Type 0) (x : A) → One A (λ r. r ≡ x)
-one A x r s p q = p ∙ sym q
-
-two : (A : Type 0) (x : A) (l : List ℕ) → OneWith A (λ r a. (r ≡ x) × (a ≡ l))
-two A x l r s a b p q = (p .0 ∙ sym (q .0), p .1 ∙ sym (q .1))
-
-pub unique : Unique
-unique =
-    record {
-      parts-front = λ bytes n. one (List ℕ) _;
-      parts-count = λ line. one ℕ _;
-      parts-word = λ line k. one (List ℕ) _;
-      parts-number-of = λ word. one Number _;
-      parts-numbers-of = λ line many. one Numbers _;
-      parts-bytes-of = λ word room. two Bytes _ _;
-      text-text = λ out at bytes. two ℕ _ _;
-      text-number = λ out at n. two ℕ _ _;
-      text-hex = λ out at bytes. two ℕ _ _;
-      text-end = λ out at. two ℕ _ _;
-      text-line = λ out at bytes. two ℕ _ _;
-    }

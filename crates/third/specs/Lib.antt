@@ -1,5 +1,4 @@
 pub mod Answers
 pub mod Asks
 pub mod Means
-pub mod Third
 pub mod Unique

@@ -2,7 +2,7 @@
 -- equal. The promise stands here in the words of the source up to names, as in `Unique` of the crate `statements`; `tools/public` compares.
 -- Assumes nothing.
 use Prim.Native.Nat.{ℕ}
-use mathlib.Core.Path.{_≡_, sym, _∙_, ap}
+use mathlib.Core.Path.{_≡_}
 use mathlib.Core.Bool.{cond}
 use mathlib.Core.List.{List}
 use Rattle.passes.specs.OnCells.{tickOn}
@@ -24,20 +24,3 @@ pub record Unique : Type 0 where
   pub history-run : (history : List ℕ) (ports : ℕ) → One Reached (λ r. (r .cells ≡ cellsReached ports (callsOf history)) × (r .shown ≡ marksReached ports (callsOf history)))
   pub history-tick-from : (from : Reached) (block : List ℕ) (figure : ℕ) → One Tried (λ r. (r .cells ≡ cellsAfter (from .cells) (ticked block figure)) × (r .shown ≡ notedAll (r .cells) (ranOn (from .cells) (ticked block figure)) block (from .shown)) × (r .answer ≡ answerOf (tickOn (from .cells) block figure .answer)))
   pub third-third-demand : (history : List ℕ) (ports : ℕ) (block : List ℕ) (less more : ℕ) → One Verdict (λ r. r ≡ cond (asks ports block less more) Held NotAsked)
-
-one : (A : Type 0) (x r s : A) → r ≡ x → s ≡ x → r ≡ s
-one A x r s p q = p ∙ sym q
-
-pub unique : Unique
-unique =
-    record {
-      history-run = λ history ports r s p q. let c = p .0 ∙ sym (q .0) in let m = p .1 ∙ sym (q .1) in λ k. record { cells = c k; shown = m k };
-      history-tick-from =
-          λ from block figure r s p q.
-          let c = p .0 ∙ sym (q .0) in
-          let n : (x : List ℕ) → List ℕ = λ x. notedAll x (ranOn (from .cells) (ticked block figure)) block (from .shown) in
-          let m : r .shown ≡ s .shown = p .1 ∙ ap n c ∙ sym (q .1) in
-          let a = p .2 ∙ sym (q .2) in
-          λ k. record { cells = c k; shown = m k; answer = a k };
-      third-third-demand = λ history ports block less more. one Verdict (cond (asks ports block less more) Held NotAsked);
-    }

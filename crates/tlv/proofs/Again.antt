@@ -11,9 +11,10 @@ use lib.Dec.{eqb, leb}
 use lib.ListN.{length, getD, drop}
 use borrow.Author.Tests.{eqb-true, eq-eqb, ne-eqb, ltb-true, le-ltb, not-false}
 use Rattle.lists.specs.Bits.{field}
-use Rattle.lists.specs.Ladder.{ladder-value}
-use Rattle.lists.specs.Table.{all, entry-or}
-use Rattle.lists.specs.Tests.{and-left, and-right}
+use Rattle.lists.proofs.Ladder.{ladder-value}
+use Rattle.lists.specs.Table.{all}
+use Rattle.lists.proofs.Table.{entry-or}
+use Rattle.lists.proofs.Tests.{and-left, and-right}
 use Rattle.fields.specs.Fields.{badValues}
 use Rattle.header.specs.Header.{wordAt, typeAt, lengthAt, fixedAt, isPower}
 use Rattle.tlv.specs.Laws.{isByte, ReadRewrites}

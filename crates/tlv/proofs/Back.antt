@@ -8,7 +8,7 @@ use native.Mathlib.Omega.{arith}
 use lib.ListN.{length, take, drop}
 use lib.Seq.{take-at}
 use Rattle.lists.specs.Bits.{field}
-use Rattle.lists.specs.Ladder.{ladder-value}
+use Rattle.lists.proofs.Ladder.{ladder-value}
 use Rattle.fields.specs.Fields.{badValues}
 use Rattle.header.specs.Header.{wordAt, typeAt, lengthAt, sizeAt, standsAt, fixedAt, isPower}
 use Rattle.tlv.specs.Laws.{WrittenReads}

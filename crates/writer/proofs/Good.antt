@@ -5,7 +5,7 @@ use mathlib.Core.Bool.{false}
 use Prim.Native.Nat.{ℕ, _≤_}
 use lib.Dec.{ltb}
 use borrow.Author.Tests.{ltb-false}
-use Rattle.lists.specs.Tests.{fails-left, fails-right}
+use Rattle.lists.proofs.Tests.{fails-left, fails-right}
 use Rattle.fields.specs.Fields.{outside, badValues}
 use Rattle.writer.specs.Write.{badCodes}
 use Rattle.fields.specs.declared.Form.the-variants.{Long}

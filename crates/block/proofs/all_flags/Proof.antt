@@ -10,9 +10,11 @@ use lib.Dec.{ltb}
 use lib.ListN.{length, set}
 use denote.Ref.{now}
 use Rattle.lists.specs.Bits.{above}
-use Rattle.lists.specs.Every.{every, every-next, every-cong}
-use Rattle.lists.specs.Places.{Filled, filled-none, filled-more, filled-below}
-use Rattle.lists.specs.Tests.{not-leb}
+use Rattle.lists.specs.Every.{every}
+use Rattle.lists.proofs.Every.{every-next, every-cong}
+use Rattle.lists.specs.Places.{Filled}
+use Rattle.lists.proofs.Places.{filled-none, filled-more, filled-below}
+use Rattle.lists.proofs.Tests.{not-leb}
 use Rattle.sample.specs.Sample.{reservedFlags}
 use Rattle.block.specs.Flags.{flagsOfPort, flagsFine, flagLane, low, eightOf, eightLaid}
 use Rattle.block.proofs.all_flags.Statement.{statement}

@@ -8,7 +8,8 @@ use native.Mathlib.Omega.{arith}
 use borrow.Author.Needs.{needs}
 use lib.ListN.{getD}
 use denote.Ref.{now}
-use Rattle.lists.specs.Total.{total, total-next}
+use Rattle.lists.specs.Total.{total}
+use Rattle.lists.proofs.Total.{total-next}
 use Rattle.power.specs.Power.{tenths, sumOf}
 use Rattle.port.specs.States.{closed}
 use Rattle.table.specs.Drawn.{draws, closedSum}
@@ -16,7 +17,7 @@ use Rattle.table.specs.Form.{portAt, withPort}
 use Rattle.cells.specs.Cells.{countCell, tableOf}
 use Rattle.cells.specs.Codes.{stateOf}
 use Rattle.replies.specs.Calls.{granting}
-use Rattle.replies.specs.OnLaws.{draws-with}
+use Rattle.replies.proofs.OnLaws.{draws-with}
 use Rattle.calls.proofs.closed_sum.Statement.{statement}
 use Rattle.calls.proofs.closed_sum.Tie as tie
 

@@ -6,7 +6,7 @@ use native.Mathlib.Omega.{arith}
 use denote.Ref.{now}
 use Rattle.table.specs.Form.{done, refuse}
 use Rattle.cells.specs.Cells.{tableOf}
-use Rattle.cells.specs.LentLaws.{cold-refused, cold-done}
+use Rattle.cells.proofs.LentLaws.{cold-refused, cold-done}
 use Rattle.replies.specs.Calls.{coldTable, coldStart}
 use Rattle.replies.specs.OnCells.{startOn}
 use Rattle.calls.proofs.cold_start.Statement.{statement}

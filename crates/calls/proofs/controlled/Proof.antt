@@ -8,16 +8,17 @@ use borrow.Author.Needs.{needs}
 use borrow.Author.Tests.{not-true, not-false}
 use lib.ListN.{set}
 use denote.Ref.{now}
-use Rattle.lists.specs.Tests.{not-or}
+use Rattle.lists.proofs.Tests.{not-or}
 use Rattle.control.specs.Control.{refused}
-use Rattle.control.specs.Laws.{taken-small}
+use Rattle.control.proofs.Laws.{taken-small}
 use Rattle.port.specs.States.{inDisabled}
 use Rattle.port.specs.declared.form.State.{State}
 use Rattle.table.specs.Form.{portAt, withPort, done, refuse}
 use Rattle.cells.specs.Cells.{tableOf}
-use Rattle.cells.specs.LentLaws.{told-refused, told-done}
+use Rattle.cells.proofs.LentLaws.{told-refused, told-done}
 use Rattle.replies.specs.Calls.{sameAlternative, withControl}
-use Rattle.replies.specs.OnLaws.{controlRest, state-at, control-at, control-cell}
+use Rattle.replies.specs.OnLaws.{controlRest}
+use Rattle.replies.proofs.OnLaws.{state-at, control-at, control-cell}
 use Rattle.calls.proofs.controlled.Statement.{statement}
 use Rattle.calls.proofs.controlled.Tie as tie
 

@@ -1,6 +1,6 @@
 -- `drawn` is the demand of a closed state, by the codes of the three that are. Assumes nothing.
 use borrow.Author.Needs.{needs}
-use Rattle.cells.specs.CodeLaws.{closed-code}
+use Rattle.cells.proofs.CodeLaws.{closed-code}
 use Rattle.calls.proofs.drawn.Statement.{statement}
 use Rattle.calls.proofs.drawn.Tie as tie
 

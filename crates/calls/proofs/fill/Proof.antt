@@ -5,8 +5,10 @@ use native.Mathlib.Nat.{le-antisymm}
 use native.Mathlib.Omega.{arith}
 use borrow.Author.Needs.{needs}
 use denote.Ref.{now}
-use Rattle.lists.specs.Places.{Filled, filled-none, filled-more, filled-all}
-use Rattle.replies.specs.Cold.{coldCell, cold-cells}
+use Rattle.lists.specs.Places.{Filled}
+use Rattle.lists.proofs.Places.{filled-none, filled-more, filled-all}
+use Rattle.replies.specs.Cold.{coldCell}
+use Rattle.replies.proofs.Cold.{cold-cells}
 use Rattle.calls.proofs.fill.Statement.{statement}
 use Rattle.calls.proofs.fill.Tie as tie
 

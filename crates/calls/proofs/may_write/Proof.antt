@@ -5,7 +5,7 @@ use borrow.Author.Needs.{needs}
 use borrow.Author.Tests.{eq-eqb, ne-eqb}
 use Rattle.port.specs.States.{inDisabled}
 use Rattle.cells.specs.Codes.{stateOf}
-use Rattle.cells.specs.CodeLaws.{disabled-code}
+use Rattle.cells.proofs.CodeLaws.{disabled-code}
 use Rattle.replies.specs.Calls.{sameAlternative}
 use Rattle.calls.proofs.may_write.Statement.{statement}
 use Rattle.calls.proofs.may_write.Tie as tie

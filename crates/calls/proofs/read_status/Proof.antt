@@ -10,12 +10,12 @@ use lib.ListN.{set}
 use denote.Ref.{now}
 use Rattle.table.specs.Form.{portAt, withPort}
 use Rattle.cells.specs.Cells.{tableOf}
-use Rattle.cells.specs.LentLaws.{read-refused, read-word}
+use Rattle.cells.proofs.LentLaws.{read-refused, read-word}
 use Rattle.well.specs.Judged.{wellCells}
-use Rattle.well.specs.Laws.{cells-of}
+use Rattle.well.proofs.Laws.{cells-of}
 use Rattle.replies.specs.Calls.{unlatched, statusAt}
 use Rattle.replies.specs.OnCells.{statusOn}
-use Rattle.replies.specs.OnLaws.{at-port, status-ill, status-no-port, status-goes, latch-cell}
+use Rattle.replies.proofs.OnLaws.{at-port, status-ill, status-no-port, status-goes, latch-cell}
 use Rattle.calls.proofs.read_status.Statement.{statement}
 use Rattle.calls.proofs.read_status.Tie as tie
 

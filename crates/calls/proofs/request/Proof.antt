@@ -9,11 +9,11 @@ use denote.Ref.{now}
 use Rattle.table.specs.declared.form.Told.{Told}
 use Rattle.cells.specs.Cells.{tableOf}
 use Rattle.cells.specs.Lent.{cellsTold}
-use Rattle.cells.specs.LentLaws.{told-refused}
+use Rattle.cells.proofs.LentLaws.{told-refused}
 use Rattle.well.specs.Judged.{wellCells}
-use Rattle.well.specs.Laws.{cells-of}
+use Rattle.well.proofs.Laws.{cells-of}
 use Rattle.replies.specs.OnCells.{requestOn}
-use Rattle.replies.specs.OnLaws.{at-port, request-ill, request-no-port, request-goes}
+use Rattle.replies.proofs.OnLaws.{at-port, request-ill, request-no-port, request-goes}
 use Rattle.calls.proofs.request.Statement.{statement}
 use Rattle.calls.proofs.request.Tie as tie
 

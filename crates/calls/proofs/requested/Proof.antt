@@ -11,12 +11,13 @@ use Rattle.power.specs.declared.Power.{Power}
 use Rattle.class.specs.Class.{budgetOf}
 use Rattle.port.specs.States.{inPowerOn}
 use Rattle.table.specs.Form.{portAt, done, refuse}
-use Rattle.table.specs.Laws.{over-is}
+use Rattle.table.proofs.Laws.{over-is}
 use Rattle.cells.specs.Cells.{tableOf, cellsWith}
-use Rattle.cells.specs.CodeLaws.{power-on-code}
-use Rattle.cells.specs.LentLaws.{told-refused, told-done}
+use Rattle.cells.proofs.CodeLaws.{power-on-code}
+use Rattle.cells.proofs.LentLaws.{told-refused, told-done}
 use Rattle.replies.specs.Calls.{levelOf, granting, overSupply}
-use Rattle.replies.specs.OnLaws.{requestRest, state-at, class-at, demand-cell}
+use Rattle.replies.specs.OnLaws.{requestRest}
+use Rattle.replies.proofs.OnLaws.{state-at, class-at, demand-cell}
 use Rattle.calls.proofs.requested.Statement.{statement}
 use Rattle.calls.proofs.requested.Tie as tie
 

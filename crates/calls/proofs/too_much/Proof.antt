@@ -6,10 +6,10 @@ use denote.Ref.{now}
 use Rattle.power.specs.Power.{tenths, atMost, over, fits}
 use Rattle.power.specs.declared.Sum.{Sum}
 use Rattle.table.specs.Form.{portAt}
-use Rattle.table.specs.Laws.{over-is}
+use Rattle.table.proofs.Laws.{over-is}
 use Rattle.cells.specs.Cells.{supplyCell, tableOf}
 use Rattle.replies.specs.Calls.{overSupply}
-use Rattle.replies.specs.OnLaws.{demand-at}
+use Rattle.replies.proofs.OnLaws.{demand-at}
 use Rattle.calls.proofs.too_much.Statement.{statement}
 use Rattle.calls.proofs.too_much.Tie as tie
 

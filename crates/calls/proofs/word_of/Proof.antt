@@ -1,7 +1,7 @@
 -- `word_of` is the word of the port that the cells are. Its class is at most 4, so it fits a byte. Assumes nothing.
 use borrow.Author.Needs.{needs}
 use denote.Ref.{now}
-use Rattle.replies.specs.OnLaws.{state-at, class-at, latches-at}
+use Rattle.replies.proofs.OnLaws.{state-at, class-at, latches-at}
 use Rattle.calls.proofs.word_of.Statement.{statement}
 use Rattle.calls.proofs.word_of.Tie as tie
 

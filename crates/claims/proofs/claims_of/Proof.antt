@@ -3,7 +3,8 @@
 use mathlib.Core.Path.{sym, _∙_}
 use borrow.Author.Needs.{needs}
 use borrow.Author.Tests.{not-true, not-false}
-use Rattle.claims.specs.Claimed.{claimsIn, claimable-cells, claimable-few, claimable-lane}
+use Rattle.claims.specs.Claimed.{claimsIn}
+use Rattle.claims.proofs.Claimed.{claimable-cells, claimable-few, claimable-lane}
 use Rattle.claims.proofs.claims_of.Statement.{statement}
 use Rattle.claims.proofs.claims_of.Tie as tie
 

@@ -6,7 +6,8 @@ use native.Mathlib.Nat.{le-antisymm}
 use native.Mathlib.Omega.{arith}
 use lib.ListN.{replicate}
 use denote.Ref.{now}
-use Rattle.lists.specs.Places.{Filled, filled-none, filled-more, filled-over}
+use Rattle.lists.specs.Places.{Filled}
+use Rattle.lists.proofs.Places.{filled-none, filled-more, filled-over}
 use Rattle.power.specs.Power.{zeroPower}
 use Rattle.cells.specs.Cells.{portOf}
 use Rattle.claims.specs.Claimed.{demandsOn}

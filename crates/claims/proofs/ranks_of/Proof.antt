@@ -9,7 +9,8 @@ use lib.ListN.{getD, replicate}
 use borrow.Author.Needs.{needs}
 use denote.Ref.{now}
 use mathlib.Core.Path.{_∙_}
-use Rattle.lists.specs.Places.{Filled, filled-none, filled-more, filled-over}
+use Rattle.lists.specs.Places.{Filled}
+use Rattle.lists.proofs.Places.{filled-none, filled-more, filled-over}
 use Rattle.port.specs.declared.form.State.{State}
 use Rattle.settling.specs.Claim.{rankIn}
 use Rattle.share.specs.Share.{noClaim}

@@ -7,7 +7,8 @@ use native.Mathlib.Nat.{le-antisymm}
 use native.Mathlib.Omega.{arith}
 use lib.ListN.{getD}
 use denote.Ref.{now}
-use Rattle.lists.specs.Total.{total, total-next}
+use Rattle.lists.specs.Total.{total}
+use Rattle.lists.proofs.Total.{total-next}
 use Rattle.claims.specs.Claimed.{wants}
 use Rattle.claims.proofs.sum_wanted.Statement.{statement}
 use Rattle.claims.proofs.sum_wanted.Tie as tie

@@ -2,7 +2,8 @@
 -- Assumes nothing.
 use mathlib.Core.Path.{sym, _∙_}
 use borrow.Author.Needs.{needs}
-use Rattle.claims.specs.Claimed.{wantedIn, claimable-cells, claimable-few, claimable-lane}
+use Rattle.claims.specs.Claimed.{wantedIn}
+use Rattle.claims.proofs.Claimed.{claimable-cells, claimable-few, claimable-lane}
 use Rattle.claims.proofs.wanted.Statement.{statement}
 use Rattle.claims.proofs.wanted.Tie as tie
 

@@ -9,9 +9,10 @@ use native.Mathlib.Omega.{arith}
 use lib.Dec.{ltb, eqb}
 use borrow.Author.Needs.{needs}
 use borrow.Author.Tests.{ltb-true, ne-eqb}
-use Rattle.lists.specs.Places.{side, tabulate, tabulate-at}
+use Rattle.lists.specs.Places.{tabulate}
+use Rattle.lists.proofs.Places.{side, tabulate-at}
 use Rattle.lists.specs.Table.{all, some}
-use Rattle.lists.specs.Tests.{and-left, and-right}
+use Rattle.lists.proofs.Tests.{and-left, and-right}
 use Rattle.power.specs.Power.{tenths}
 use Rattle.class.specs.Class.{isDemand}
 use Rattle.class.proofs.is_demand.Statement.{statement}

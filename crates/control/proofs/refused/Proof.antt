@@ -8,7 +8,8 @@ use lib.Dec.{leb, eqb}
 use borrow.Author.Needs.{needs}
 use borrow.Author.Tests.{le-leb}
 use Rattle.lists.specs.Bits.{field, above}
-use Rattle.lists.specs.Places.{side, tabulate, tabulate-at}
+use Rattle.lists.specs.Places.{tabulate}
+use Rattle.lists.proofs.Places.{side, tabulate-at}
 use Rattle.control.specs.Control.{refused}
 use Rattle.control.proofs.refused.Statement.{statement}
 use Rattle.control.proofs.refused.Tie as tie

@@ -2,7 +2,7 @@
 -- Assumes nothing.
 use native.Mathlib.Omega.{arith}
 use borrow.Author.Needs.{needs}
-use Rattle.lists.specs.Bits.{field-low}
+use Rattle.lists.proofs.Bits.{field-low}
 use Rattle.header.specs.Header.{lengthAt}
 use Rattle.header.proofs.length_at.Statement.{statement}
 use Rattle.header.proofs.length_at.Tie as tie

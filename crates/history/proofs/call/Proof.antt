@@ -5,7 +5,7 @@ use borrow.Author.Needs.{needs}
 use borrow.Author.Tests.{eq-eqb, ne-eqb}
 use Rattle.history.specs.Decode.{callOf}
 use Rattle.history.specs.Lent.{cellsAfter, ranOn}
-use Rattle.history.specs.LentLaws.{zero-accepted}
+use Rattle.history.proofs.LentLaws.{zero-accepted}
 use Rattle.history.specs.declared.TickAnswer.{TickAnswer}
 use Rattle.history.proofs.call.Statement.{statement}
 use Rattle.history.proofs.call.Tie as tie

@@ -1,6 +1,6 @@
 -- `next` makes a call and notes what it showed. Assumes nothing.
 use borrow.Author.Needs.{needs}
-use Rattle.history.specs.Running.{noted-as}
+use Rattle.history.proofs.Running.{noted-as}
 use Rattle.history.proofs.next.Statement.{statement}
 use Rattle.history.proofs.next.Tie as tie
 

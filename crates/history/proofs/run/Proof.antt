@@ -4,7 +4,7 @@ use mathlib.Core.Path.{refl}
 use native.Mathlib.Omega.{arith}
 use lib.ListN.{length}
 use borrow.Author.Needs.{needs}
-use Rattle.history.specs.Running.{Decoded, decoded-cold, decoded-more, decoded-all}
+use Rattle.history.proofs.Running.{Decoded, decoded-cold, decoded-more, decoded-all}
 use Rattle.history.proofs.run.Statement.{statement}
 use Rattle.history.proofs.run.Tie as tie
 

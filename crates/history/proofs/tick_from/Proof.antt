@@ -3,8 +3,8 @@ use mathlib.Core.Path.{_∙_, ap}
 use lib.Dec.{eqb}
 use borrow.Author.Needs.{needs}
 use Rattle.history.specs.Lent.{cellsAfter, ranOn}
-use Rattle.history.specs.LentLaws.{zero-accepted}
-use Rattle.history.specs.Running.{noted-as}
+use Rattle.history.proofs.LentLaws.{zero-accepted}
+use Rattle.history.proofs.Running.{noted-as}
 use Rattle.history.specs.declared.TickAnswer.{TickAnswer}
 use Rattle.history.proofs.tick_from.Statement.{statement}
 use Rattle.history.proofs.tick_from.Tie as tie

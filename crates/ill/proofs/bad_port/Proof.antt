@@ -2,7 +2,8 @@
 use mathlib.Core.Bool.{or-assoc, or-false}
 use Rattle.table.specs.WellMade.{illPort}
 use Rattle.cells.specs.Cells.{portOf}
-use Rattle.ill.specs.Ill.{illAt, holds-not}
+use Rattle.ill.specs.Ill.{illAt}
+use Rattle.ill.proofs.Ill.{holds-not}
 use Prim.Native.Nat.{_+_}
 use borrow.Author.Needs.{needs}
 use native.Mathlib.Omega.{arith}

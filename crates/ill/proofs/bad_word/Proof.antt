@@ -7,7 +7,8 @@ use mathlib.Core.Logic.{⊎-elim}
 use lib.Dec.{leb, eqb}
 use borrow.Author.Tests.{le-leb}
 use Rattle.lists.specs.Bits.{field, above}
-use Rattle.lists.specs.Places.{side, tabulate, tabulate-at}
+use Rattle.lists.specs.Places.{tabulate}
+use Rattle.lists.proofs.Places.{side, tabulate-at}
 use Rattle.control.specs.Control.{refused}
 use Rattle.ill.proofs.bad_word.Statement.{statement}
 use Rattle.ill.proofs.bad_word.Tie as tie

@@ -8,11 +8,13 @@ use native.Mathlib.Nat.{le-antisymm}
 use borrow.Author.Tests.{not-true, not-false, ne-eqb}
 use denote.Ref.{now}
 use lib.ListN.{length}
-use Rattle.lists.specs.Every.{every, every-next}
+use Rattle.lists.specs.Every.{every}
+use Rattle.lists.proofs.Every.{every-next}
 use Rattle.cells.specs.Cells.{countCell}
 use Rattle.well.specs.Judged.{headCells, portFine}
-use Rattle.well.specs.Laws.{head-long, head-count}
-use Rattle.ill.specs.Ill.{illCells, ill-parts, ill-at-is, either-is, head-ill}
+use Rattle.well.proofs.Laws.{head-long, head-count}
+use Rattle.ill.specs.Ill.{illCells}
+use Rattle.ill.proofs.Ill.{ill-parts, ill-at-is, either-is, head-ill}
 use native.Mathlib.Omega.{arith}
 use Rattle.ill.proofs.ill_made.Statement.{statement}
 use Rattle.ill.proofs.ill_made.Tie as tie

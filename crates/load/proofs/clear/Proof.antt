@@ -7,7 +7,8 @@ use native.Mathlib.Omega.{arith}
 use lib.ListN.{length-replicate, getD-replicate}
 use lib.Seq.{ext-getD}
 use borrow.Author.Needs.{needs}
-use Rattle.lists.specs.Places.{Filled, filled-none, filled-more}
+use Rattle.lists.specs.Places.{Filled}
+use Rattle.lists.proofs.Places.{filled-none, filled-more}
 use Rattle.load.proofs.clear.Statement.{statement}
 use Rattle.load.proofs.clear.Tie as tie
 

@@ -6,7 +6,7 @@ use native.Mathlib.Nat.{le-antisymm}
 use native.Mathlib.Omega.{arith}
 use lib.ListN.{length, length-set, length-replicate}
 use borrow.Author.Needs.{needs}
-use Rattle.image.specs.Load.{reads-long, reads-port}
+use Rattle.image.proofs.Load.{reads-long, reads-port}
 use Rattle.load.proofs.Restored.{Put, put-none, put-long, put-more, put-all}
 use Rattle.load.proofs.put.Statement.{statement}
 use Rattle.load.proofs.put.Tie as tie

@@ -8,7 +8,8 @@ use native.Mathlib.Omega.{arith}
 use borrow.Author.Needs.{needs}
 use borrow.Author.Tests.{eq-eqb, ne-eqb, not-true, not-false}
 use denote.Ref.{now}
-use Rattle.lists.specs.Every.{every, every-next, every-not}
+use Rattle.lists.specs.Every.{every}
+use Rattle.lists.proofs.Every.{every-next, every-not}
 use Rattle.image.specs.Load.{portReads, reads}
 use Rattle.load.proofs.reads.Statement.{statement}
 use Rattle.load.proofs.reads.Tie as tie

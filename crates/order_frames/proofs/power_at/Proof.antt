@@ -1,7 +1,7 @@
 -- `power_at` is 1 exactly for a power TLV: the type and the length, and then the four bytes. The whole TLV is there. Assumes nothing.
 use denote.Ref.{now}
 use Rattle.header.specs.Header.{sizeAt}
-use Rattle.order_frames.specs.Headers.{six, no-power, maybe-power}
+use Rattle.order_frames.proofs.Headers.{six, no-power, maybe-power}
 use borrow.Author.Needs.{needs}
 use native.Mathlib.Omega.{arith}
 use Rattle.order_frames.proofs.power_at.Statement.{statement}

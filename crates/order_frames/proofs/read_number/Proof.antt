@@ -5,7 +5,7 @@ use borrow.Author.Tests.{lt-ltb, le-ltb}
 use denote.Ref.{now}
 use Rattle.fields.specs.Fields.{outside, badValues}
 use Rattle.reader.specs.Read.{cut, addedIn, formIn}
-use Rattle.order_frames.specs.Headers.{size-is, not-cut, not-one, fourteen, short-form, long-form}
+use Rattle.order_frames.proofs.Headers.{size-is, not-cut, not-one, fourteen, short-form, long-form}
 use borrow.Author.Needs.{needs}
 use native.Mathlib.Omega.{arith}
 use Rattle.order_frames.proofs.read_number.Statement.{statement}

@@ -6,10 +6,10 @@ use denote.Ref.{now}
 use lib.ListN.{length}
 use Rattle.search.specs.Search.{searchRefusals}
 use Rattle.walk.specs.Walk.{walkFrom}
-use Rattle.walk.specs.Walked.{past}
+use Rattle.walk.proofs.Walked.{past}
 use Rattle.interface.specs.Statement1C.{firstNumber}
-use Rattle.order_frames.specs.Headers.{size-is, lone, type-zero, too-long, whole-tlv}
-use Rattle.order_frames.specs.Walking.{outlook, looks, ends, breaks, goes-on}
+use Rattle.order_frames.proofs.Headers.{size-is, lone, type-zero, too-long, whole-tlv}
+use Rattle.order_frames.proofs.Walking.{outlook, looks, ends, breaks, goes-on}
 use borrow.Author.Needs.{needs}
 use native.Mathlib.Omega.{arith}
 use Rattle.order_frames.proofs.search_number.Statement.{statement}

@@ -4,7 +4,7 @@ use mathlib.Core.Bool.{_||_}
 use borrow.Author.Tests.{lt-ltb, le-ltb}
 use Rattle.fields.specs.Fields.{badValues}
 use Rattle.writer.specs.Write.{badCodes, bytesOf}
-use Rattle.order_frames.specs.Headers.{codes-are}
+use Rattle.order_frames.proofs.Headers.{codes-are}
 use borrow.Author.Needs.{needs}
 use Rattle.order_frames.proofs.write_number.Statement.{statement}
 use Rattle.order_frames.proofs.write_number.Tie as tie

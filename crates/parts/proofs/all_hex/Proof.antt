@@ -9,7 +9,8 @@ use mathlib.Core.Path.{_≡_, refl, sym, _∙_, ap, ap₂}
 use native.Mathlib.Nat.{le-antisymm}
 use native.Mathlib.Omega.{arith}
 use Prim.Native.Nat.{ℕ, _≤_, _-_}
-use Rattle.lists.specs.Every.{every, every-next, every-not}
+use Rattle.lists.specs.Every.{every}
+use Rattle.lists.proofs.Every.{every-next, every-not}
 use Rattle.parts.specs.Hex.{isHex, nibbleOf}
 use Rattle.parts.proofs.all_hex.Statement.{statement}
 use Rattle.parts.proofs.all_hex.Tie as tie

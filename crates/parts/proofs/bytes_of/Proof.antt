@@ -5,7 +5,7 @@ use borrow.Author.Tests.{not-true, not-false}
 use denote.Ref.{now}
 use mathlib.Core.Path.{sym, _∙_}
 use native.Mathlib.Omega.{arith}
-use Rattle.parts.specs.Hex.{took, dash, no-digit, empty, odd, small, other, pairs}
+use Rattle.parts.proofs.Hex.{took, dash, no-digit, empty, odd, small, other, pairs}
 use Rattle.parts.proofs.bytes_of.Statement.{statement}
 use Rattle.parts.proofs.bytes_of.Tie as tie
 

@@ -8,7 +8,8 @@ use mathlib.Core.Path.{_≡_, ap}
 use native.Mathlib.Nat.{le-antisymm}
 use native.Mathlib.Omega.{arith}
 use Prim.Native.Nat.{_≤_, _-_, _+_}
-use Rattle.parts.specs.Words.{words, more-words, same-words, at-end}
+use Rattle.parts.specs.Words.{words}
+use Rattle.parts.proofs.Words.{more-words, same-words, at-end}
 use Rattle.parts.proofs.count.Statement.{statement}
 use Rattle.parts.proofs.count.Tie as tie
 

@@ -8,7 +8,8 @@ use mathlib.Core.Path.{_≡_, sym, _∙_, ap}
 use native.Mathlib.Nat.{le-antisymm, sub-self}
 use native.Mathlib.Omega.{arith}
 use Prim.Native.Nat.{ℕ, _≤_, _-_, _+_}
-use Rattle.parts.specs.Words.{wordAt, ends-here, goes-on, past-end, grown}
+use Rattle.parts.specs.Words.{wordAt}
+use Rattle.parts.proofs.Words.{ends-here, goes-on, past-end, grown}
 use Rattle.parts.proofs.end.Statement.{statement}
 use Rattle.parts.proofs.end.Tie as tie
 

@@ -7,9 +7,11 @@ use mathlib.Core.Path.{_≡_}
 use native.Mathlib.Nat.{le-antisymm}
 use native.Mathlib.Omega.{arith}
 use Prim.Native.Nat.{_≤_, _-_, _+_, _*_, _/_}
-use Rattle.lists.specs.Every.{every-at}
-use Rattle.lists.specs.Places.{Filled, filled-none, filled-more}
-use Rattle.parts.specs.Hex.{isHex, pairOf, bytesIn, filled-front}
+use Rattle.lists.proofs.Every.{every-at}
+use Rattle.lists.specs.Places.{Filled}
+use Rattle.lists.proofs.Places.{filled-none, filled-more}
+use Rattle.parts.specs.Hex.{isHex, pairOf, bytesIn}
+use Rattle.parts.proofs.Hex.{filled-front}
 use Rattle.parts.proofs.fill.Statement.{statement}
 use Rattle.parts.proofs.fill.Tie as tie
 

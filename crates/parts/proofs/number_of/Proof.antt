@@ -9,8 +9,10 @@ use mathlib.Core.Path.{_≡_, refl, sym, _∙_, ap₂}
 use native.Mathlib.Nat.{le-antisymm}
 use native.Mathlib.Omega.{arith}
 use Prim.Native.Nat.{_≤_, _-_}
-use Rattle.lists.specs.Every.{every, every-next}
-use Rattle.parts.specs.Decimal.{isDigit, isNumber, numberIn, most, Read, more-is, read-none, read-more, read-bad, read-all}
+use Rattle.lists.specs.Every.{every}
+use Rattle.lists.proofs.Every.{every-next}
+use Rattle.parts.specs.Decimal.{isDigit, isNumber, numberIn, most}
+use Rattle.parts.proofs.Decimal.{Read, more-is, read-none, read-more, read-bad, read-all}
 use Rattle.parts.proofs.number_of.Statement.{statement}
 use Rattle.parts.proofs.number_of.Tie as tie
 

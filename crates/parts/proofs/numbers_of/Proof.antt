@@ -9,10 +9,13 @@ use mathlib.Core.Path.{_≡_, refl, sym, _∙_, ap, ap₂}
 use native.Mathlib.Nat.{le-antisymm}
 use native.Mathlib.Omega.{arith}
 use Prim.Native.Nat.{ℕ, _≤_, _-_}
-use Rattle.lists.specs.Every.{every, every-next}
-use Rattle.lists.specs.Places.{Filled, filled-none, filled-more}
+use Rattle.lists.specs.Every.{every}
+use Rattle.lists.proofs.Every.{every-next}
+use Rattle.lists.specs.Places.{Filled}
+use Rattle.lists.proofs.Places.{filled-none, filled-more}
 use Rattle.parts.specs.Decimal.{isNumber, numberIn, value}
-use Rattle.parts.specs.Numbers.{asked, is-number, no-number, too-many, other-count, one-bad, all-good}
+use Rattle.parts.specs.Numbers.{asked}
+use Rattle.parts.proofs.NumbersLaws.{is-number, no-number, too-many, other-count, one-bad, all-good}
 use Rattle.parts.proofs.numbers_of.Statement.{statement}
 use Rattle.parts.proofs.numbers_of.Tie as tie
 

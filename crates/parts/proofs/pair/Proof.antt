@@ -4,7 +4,7 @@ use borrow.Author.Needs.{needs}
 use mathlib.Core.Path.{ap₂}
 use native.Mathlib.Omega.{arith}
 use Prim.Native.Nat.{ℕ, _+_, _*_}
-use Rattle.parts.specs.Hex.{hex-small}
+use Rattle.parts.proofs.Hex.{hex-small}
 use Rattle.parts.proofs.pair.Statement.{statement}
 use Rattle.parts.proofs.pair.Tie as tie
 

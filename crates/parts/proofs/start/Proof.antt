@@ -8,7 +8,8 @@ use mathlib.Core.Path.{_≡_, refl, sym, _∙_, ap}
 use native.Mathlib.Nat.{le-antisymm}
 use native.Mathlib.Omega.{arith}
 use Prim.Native.Nat.{ℕ, _≤_, _-_, _+_}
-use Rattle.parts.specs.Words.{wordAt, seek-space, seek-other, past-end}
+use Rattle.parts.specs.Words.{wordAt}
+use Rattle.parts.proofs.Words.{seek-space, seek-other, past-end}
 use Rattle.parts.proofs.start.Statement.{statement}
 use Rattle.parts.proofs.start.Tie as tie
 

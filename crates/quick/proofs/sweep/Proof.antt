@@ -6,7 +6,8 @@ use native.Mathlib.Omega.{arith}
 use borrow.Author.Needs.{needs}
 use borrow.Author.Tests.{not-true, not-false}
 use denote.Ref.{now}
-use Rattle.quick.specs.Sweep.{sweepable, sweptLeft, sweptCells, sweptLane, sweepable-cells, sweepable-lane, sweepable-few}
+use Rattle.quick.specs.Sweep.{sweepable, sweptLeft, sweptCells, sweptLane}
+use Rattle.quick.proofs.SweepLaws.{sweepable-cells, sweepable-lane, sweepable-few}
 use Rattle.quick.proofs.sweep.Statement.{statement}
 use Rattle.quick.proofs.sweep.Tie as tie
 

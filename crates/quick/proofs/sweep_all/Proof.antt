@@ -12,8 +12,10 @@ use lib.ListN.{length, getD}
 use borrow.Author.Needs.{needs}
 use denote.Ref.{now}
 use Rattle.lists.specs.Every.{someBelow}
-use Rattle.lists.specs.Places.{Filled, filled-none, filled-more, filled-below}
-use Rattle.quick.specs.Sweep.{lookedAt, isMarked, lookedCells, lookedLane, looked-long, looked-turn, looked-more, allBits, mark-bits, bits-joined, bits-some}
+use Rattle.lists.specs.Places.{Filled}
+use Rattle.lists.proofs.Places.{filled-none, filled-more, filled-below}
+use Rattle.quick.specs.Sweep.{lookedAt, isMarked, lookedCells, lookedLane}
+use Rattle.quick.proofs.SweepLaws.{looked-long, looked-turn, looked-more, allBits, mark-bits, bits-joined, bits-some}
 use Rattle.quick.specs.declared.Look.{Look}
 use Rattle.quick.proofs.sweep_all.Statement.{statement}
 use Rattle.quick.proofs.sweep_all.Tie as tie

@@ -9,7 +9,7 @@ use borrow.Author.Needs.{needs}
 use borrow.Author.Tests.{lt-ltb}
 use Rattle.search.specs.Search.{searchOf}
 use Rattle.walk.specs.Walk.{stepOf, walkFrom}
-use Rattle.walk.specs.Walked.{whole}
+use Rattle.walk.proofs.Walked.{whole}
 use Rattle.search.specs.declared.Seen.the-variants.{Nothing}
 use Rattle.walk.specs.declared.Step.the-variants.{Tlv}
 use Rattle.search.proofs.Passed.{outlook, allowed, ends, breaks, goes-on}

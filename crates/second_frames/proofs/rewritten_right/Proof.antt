@@ -6,7 +6,8 @@ use lib.Seq.{length-take-le}
 use borrow.Author.Needs.{needs}
 use borrow.Author.Tests.{lt-ltb, le-ltb}
 use denote.Ref.{now}
-use Rattle.second_frames.specs.Right.{rewrittenRight, from-there-on}
+use Rattle.second_frames.specs.Right.{rewrittenRight}
+use Rattle.second_frames.proofs.Right.{from-there-on}
 use Rattle.second_frames.proofs.rewritten_right.Statement.{statement}
 use Rattle.second_frames.proofs.rewritten_right.Tie as tie
 

@@ -4,10 +4,10 @@ use borrow.Author.Needs.{needs}
 use borrow.Author.Tests.{eq-eqb, ne-eqb, not-true, not-false}
 use denote.Ref.{now}
 use native.Mathlib.Omega.{arith}
-use Rattle.lists.specs.Tests.{not-both}
-use Rattle.held.specs.HeldFrames.{read-refused}
+use Rattle.lists.proofs.Tests.{not-both}
+use Rattle.held.proofs.HeldFrames.{read-refused}
 use Rattle.second_frames.specs.Asks.{asksRead}
-use Rattle.second_frames.specs.Held.{read-written, read-right}
+use Rattle.second_frames.proofs.Held.{read-written, read-right}
 use Rattle.second_frames.proofs.second_read.Statement.{statement}
 use Rattle.second_frames.proofs.second_read.Tie as tie
 

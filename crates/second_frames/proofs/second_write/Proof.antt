@@ -4,11 +4,11 @@ use borrow.Author.Needs.{needs}
 use borrow.Author.Tests.{eq-eqb, ne-eqb, not-true, not-false}
 use denote.Ref.{now}
 use native.Mathlib.Omega.{arith}
-use Rattle.lists.specs.Tests.{not-both}
-use Rattle.judge.specs.Alike.{alike-is}
-use Rattle.held.specs.HeldFrames.{write-refused}
+use Rattle.lists.proofs.Tests.{not-both}
+use Rattle.judge.proofs.Alike.{alike-is}
+use Rattle.held.proofs.HeldFrames.{write-refused}
 use Rattle.second_frames.specs.Asks.{asksWrite}
-use Rattle.second_frames.specs.Held.{write-right}
+use Rattle.second_frames.proofs.Held.{write-right}
 use Rattle.second_frames.proofs.second_write.Statement.{statement}
 use Rattle.second_frames.proofs.second_write.Tie as tie
 

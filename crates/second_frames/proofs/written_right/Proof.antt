@@ -6,7 +6,8 @@ use lib.Seq.{length-take-le}
 use borrow.Author.Needs.{needs}
 use borrow.Author.Tests.{lt-ltb, le-ltb, eq-eqb, ne-eqb}
 use denote.Ref.{now}
-use Rattle.second_frames.specs.Right.{writtenRight, from-there-on}
+use Rattle.second_frames.specs.Right.{writtenRight}
+use Rattle.second_frames.proofs.Right.{from-there-on}
 use Rattle.second_frames.proofs.written_right.Statement.{statement}
 use Rattle.second_frames.proofs.written_right.Tie as tie
 

@@ -7,7 +7,8 @@ use lib.Dec.{eqb}
 use native.Mathlib.Omega.{arith}
 use lib.ListN.{getD, set}
 use borrow.Author.Needs.{needs}
-use Rattle.lists.specs.Places.{tabulate, Filled, filled-none, filled-more, filled-all}
+use Rattle.lists.specs.Places.{tabulate, Filled}
+use Rattle.lists.proofs.Places.{filled-none, filled-more, filled-all}
 use Rattle.power.specs.Power.{sumOf, zeroPower}
 use Rattle.share.specs.Share.{keeps}
 use Rattle.share.specs.Given.{rankOf, demandOf}

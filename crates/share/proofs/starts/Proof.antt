@@ -6,7 +6,8 @@ use native.Mathlib.Numerals.{add-one}
 use native.Mathlib.Omega.{arith}
 use lib.ListN.{getD}
 use borrow.Author.Needs.{needs}
-use Rattle.lists.specs.Places.{Filled, filled-none, filled-more, filled-all}
+use Rattle.lists.specs.Places.{Filled}
+use Rattle.lists.proofs.Places.{filled-none, filled-more, filled-all}
 use Rattle.power.specs.Power.{sumOf, join}
 use Rattle.share.specs.Passes.{joined}
 use Rattle.share.proofs.starts.Statement.{statement}

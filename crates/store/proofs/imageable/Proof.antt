@@ -7,7 +7,8 @@ use native.Mathlib.Nat.{le-antisymm}
 use native.Mathlib.Omega.{arith}
 use borrow.Author.Needs.{needs}
 use borrow.Author.Tests.{eq-eqb, ne-eqb, not-true, not-false}
-use Rattle.lists.specs.Every.{every, every-next, every-not}
+use Rattle.lists.specs.Every.{every}
+use Rattle.lists.proofs.Every.{every-next, every-not}
 use Rattle.image.specs.Image.{portSaves, imageable}
 use Rattle.store.proofs.imageable.Statement.{statement}
 use Rattle.store.proofs.imageable.Tie as tie

@@ -8,9 +8,9 @@ use native.Mathlib.Omega.{arith}
 use lib.ListN.{getD}
 use borrow.Author.Needs.{needs}
 use Rattle.cells.specs.Cells.{tableOf}
-use Rattle.cells.specs.Laws.{table-at}
+use Rattle.cells.proofs.Laws.{table-at}
 use Rattle.image.specs.Image.{portBytes}
-use Rattle.image.specs.Laws.{head-byte, port-byte}
+use Rattle.image.proofs.Laws.{head-byte, port-byte}
 use Rattle.store.proofs.Saved.{saved-long, saved-port}
 use Rattle.store.proofs.Written.{Written, written-none, written-more, written-at, written-all}
 use Rattle.store.proofs.put.Statement.{statement}

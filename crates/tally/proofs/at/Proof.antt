@@ -3,7 +3,7 @@
 use mathlib.Core.Path.{refl}
 use native.Mathlib.Omega.{arith}
 use borrow.Author.Needs.{needs}
-use Rattle.tally.specs.Tally.{side-small}
+use Rattle.tally.proofs.Tally.{side-small}
 use Rattle.tally.proofs.at.Statement.{statement}
 use Rattle.tally.proofs.at.Tie as tie
 

@@ -5,7 +5,8 @@ use mathlib.Core.Bool.{and-false}
 use lib.ListN.{length}
 use borrow.Author.Needs.{needs}
 use borrow.Author.Tests.{eq-eqb, ne-eqb, le-leb, lt-leb}
-use Rattle.tally.specs.Tally.{tallied, named, closedIn, sidesIn, side-lane-sided, side-lane-long}
+use Rattle.tally.specs.Tally.{tallied, named, closedIn, sidesIn}
+use Rattle.tally.proofs.Tally.{side-lane-sided, side-lane-long}
 use Rattle.tally.proofs.closed_ports.Statement.{statement}
 use Rattle.tally.proofs.closed_ports.Tie as tie
 

@@ -1,7 +1,7 @@
 -- `is_shut` asks of a code what `closed` asks of its state.
 -- Assumes nothing.
 use mathlib.Core.Path.{sym}
-use Rattle.cells.specs.CodeLaws.{closed-code}
+use Rattle.cells.proofs.CodeLaws.{closed-code}
 use Rattle.tally.proofs.is_shut.Statement.{statement}
 use Rattle.tally.proofs.is_shut.Tie as tie
 

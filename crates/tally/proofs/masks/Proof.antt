@@ -7,10 +7,12 @@ use native.Mathlib.Nat.{le-antisymm, le-trans}
 use native.Mathlib.Omega.{arith}
 use lib.Count.{ones, ones-le}
 use denote.Ref.{now}
-use Rattle.lists.specs.Count.{mask, mask-below, mask-join}
+use Rattle.lists.specs.Count.{mask}
+use Rattle.lists.proofs.Count.{mask-below, mask-join}
 use Rattle.lists.specs.Total.{total}
 use Rattle.table.specs.declared.form.Closed.the-variants.{Ports}
-use Rattle.tally.specs.Tally.{isA, isB, named, weighed-low, weighed-high}
+use Rattle.tally.specs.Tally.{isA, isB, named}
+use Rattle.tally.proofs.Tally.{weighed-low, weighed-high}
 use Rattle.tally.proofs.masks.Statement.{statement}
 use Rattle.tally.proofs.masks.Tie as tie
 

@@ -7,7 +7,8 @@ use native.Mathlib.Omega.{arith}
 use lib.Dec.{eqb}
 use borrow.Author.Needs.{needs}
 use Rattle.lists.specs.Bits.{field, choose, one}
-use Rattle.lists.specs.Places.{tabulate, tabulate-at}
+use Rattle.lists.specs.Places.{tabulate}
+use Rattle.lists.proofs.Places.{tabulate-at}
 use Rattle.control.specs.Control.{pairOf}
 use Rattle.control.specs.declared.Pair.the-variants.{Neither, A, B, Both}
 use Rattle.port.specs.States.{closed}

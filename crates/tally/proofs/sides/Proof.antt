@@ -10,7 +10,8 @@ use lib.Dec.{ltb}
 use borrow.Author.Needs.{needs}
 use borrow.Author.Tests.{lt-ltb, le-ltb}
 use denote.Ref.{now}
-use Rattle.lists.specs.Places.{Filled, filled-none, filled-more, filled-all}
+use Rattle.lists.specs.Places.{Filled}
+use Rattle.lists.proofs.Places.{filled-none, filled-more, filled-all}
 use Rattle.cells.specs.Cells.{portOf}
 use Rattle.tally.specs.Tally.{sideOf, sideLane}
 use Rattle.tally.proofs.sides.Statement.{statement}

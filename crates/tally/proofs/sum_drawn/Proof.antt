@@ -5,7 +5,8 @@ use mathlib.Core.Path.{_≡_, refl, sym, _∙_, ap, ap₂}
 use native.Mathlib.Nat.{le-antisymm}
 use native.Mathlib.Omega.{arith}
 use denote.Ref.{now}
-use Rattle.lists.specs.Total.{total, total-next}
+use Rattle.lists.specs.Total.{total}
+use Rattle.lists.proofs.Total.{total-next}
 use Rattle.table.specs.Drawn.{draws}
 use Rattle.cells.specs.Cells.{portOf}
 use Rattle.tally.specs.Tally.{drawnOn}

@@ -3,8 +3,9 @@
 use borrow.Author.Needs.{needs}
 use mathlib.Core.List.{[], _∷_}
 use native.Mathlib.Omega.{arith}
-use Rattle.parts.specs.Decimal.{decimal, decimal-one, decimal-more}
-use Rattle.text.specs.Room.{put-more}
+use Rattle.parts.specs.Decimal.{decimal}
+use Rattle.parts.proofs.Decimal.{decimal-one, decimal-more}
+use Rattle.text.proofs.Room.{put-more}
 use Prim.Native.Nat.{ℕ, _<_, _+_, _/_, _%_}
 use borrow.Fn.Kinds.{In}
 use borrow.Fn.PlainCycle.{Measures, is, falls, and}

@@ -9,8 +9,9 @@ use mathlib.Core.Path.{_≡_, sym, _∙_, ap}
 use native.Mathlib.Nat.{le-antisymm}
 use native.Mathlib.Omega.{arith}
 use Prim.Native.Nat.{ℕ, _≤_, _-_, _+_, _/_, _%_}
-use Rattle.parts.specs.Hex.{glyphOf, hexOf, hex-more}
-use Rattle.text.specs.Room.{Put, put-none, put-more, take-next}
+use Rattle.parts.specs.Hex.{glyphOf, hexOf}
+use Rattle.parts.proofs.Hex.{hex-more}
+use Rattle.text.proofs.Room.{Put, put-none, put-more, take-next}
 use Rattle.text.proofs.hex.Statement.{statement}
 use Rattle.text.proofs.hex.Tie as tie
 

@@ -3,7 +3,7 @@
 use borrow.Author.Needs.{needs}
 use denote.Ref.{now}
 use mathlib.Core.List.{[], _∷_}
-use Rattle.text.specs.Room.{put-byte, put-full}
+use Rattle.text.proofs.Room.{put-byte, put-full}
 use Rattle.text.proofs.put.Statement.{statement}
 use Rattle.text.proofs.put.Tie as tie
 

@@ -9,7 +9,7 @@ use mathlib.Core.Path.{_≡_, _∙_, ap}
 use native.Mathlib.Nat.{le-antisymm}
 use native.Mathlib.Omega.{arith}
 use Prim.Native.Nat.{ℕ, _≤_, _-_}
-use Rattle.text.specs.Room.{Put, put-none, put-more, take-next}
+use Rattle.text.proofs.Room.{Put, put-none, put-more, take-next}
 use Rattle.text.proofs.text.Statement.{statement}
 use Rattle.text.proofs.text.Tie as tie
 

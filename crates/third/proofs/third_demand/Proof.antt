@@ -4,10 +4,11 @@ use mathlib.Core.Bool.{true}
 use borrow.Author.Needs.{needs}
 use borrow.Author.Tests.{not-true, not-false}
 use denote.Ref.{now}
-use Rattle.lists.specs.Tests.{not-both}
+use Rattle.lists.proofs.Tests.{not-both}
 use Rattle.third.specs.Answers.{noneLostIn}
-use Rattle.third.specs.Asks.{asks, Asked, asked-so}
-use Rattle.third.specs.Third.{small, great, loses-none, answer-in, sound-in}
+use Rattle.third.specs.Asks.{asks, Asked}
+use Rattle.third.proofs.Asks.{asked-so}
+use Rattle.third.proofs.Third.{small, great, loses-none, answer-in, sound-in}
 use Rattle.third.proofs.third_demand.Statement.{statement}
 use Rattle.third.proofs.third_demand.Tie as tie
 

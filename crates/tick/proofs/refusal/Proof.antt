@@ -11,8 +11,9 @@ use denote.Ref.{now}
 use Rattle.lists.specs.Every.{every}
 use Rattle.cells.specs.Cells.{countCell}
 use Rattle.well.specs.Judged.{headCells, wellCells, portFine}
-use Rattle.well.specs.Laws.{well-cells, head-long, head-count}
-use Rattle.block.specs.Flags.{flagsFine, fit-clean, fit-laid}
+use Rattle.well.proofs.Laws.{well-cells, head-long, head-count}
+use Rattle.block.specs.Flags.{flagsFine}
+use Rattle.block.proofs.Flags.{fit-clean, fit-laid}
 use Rattle.passes.specs.Passes.{refusalOf}
 use Rattle.tick.proofs.refusal.Statement.{statement}
 use Rattle.tick.proofs.refusal.Tie as tie

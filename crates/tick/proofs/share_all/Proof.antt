@@ -7,7 +7,8 @@ use lib.Dec.{ltb}
 use borrow.Author.Needs.{needs}
 use denote.Ref.{now}
 use Rattle.cells.specs.Cells.{written}
-use Rattle.tally.specs.Tally.{drawnOn, drawn-in}
+use Rattle.tally.specs.Tally.{drawnOn}
+use Rattle.tally.proofs.Tally.{drawn-in}
 use Rattle.passes.specs.Passes.{sharedBy, sharedOn}
 use Rattle.tick.proofs.share_all.Statement.{statement}
 use Rattle.tick.proofs.share_all.Tie as tie

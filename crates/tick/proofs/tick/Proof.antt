@@ -13,7 +13,7 @@ use Rattle.table.specs.declared.form.Ticked.{Ticked}
 use Rattle.cells.specs.Cells.{tableOf}
 use Rattle.cells.specs.Lent.{cellsTicked}
 use Rattle.boards.specs.Masks.{answered}
-use Rattle.passes.specs.Judging.{number, value, judged, clear, ready}
+use Rattle.passes.proofs.Judging.{number, value, judged, clear, ready}
 use Rattle.passes.specs.OnCells.{tickOn}
 use Rattle.passes.specs.Passes.{movedAnswer, movedCells}
 use Rattle.tick.proofs.tick.Statement.{statement}

@@ -7,7 +7,8 @@ use mathlib.Core.Logic.{⊎-elim}
 use lib.Dec.{ltb, eqb}
 use borrow.Author.Tests.{le-leb, le-ltb}
 use Rattle.lists.specs.Bits.{field, above}
-use Rattle.lists.specs.Places.{side, tabulate, tabulate-at}
+use Rattle.lists.specs.Places.{tabulate}
+use Rattle.lists.proofs.Places.{side, tabulate-at}
 use Rattle.control.specs.Control.{refused}
 use Rattle.well.proofs.control_fine.Statement.{statement}
 use Rattle.well.proofs.control_fine.Tie as tie

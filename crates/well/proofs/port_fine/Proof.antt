@@ -9,7 +9,8 @@ use borrow.Author.Needs.{needs}
 use Rattle.power.specs.Power.{tenths}
 use Rattle.class.specs.Class.{isDemand}
 use Rattle.control.specs.Control.{refused}
-use Rattle.table.specs.Head.{wellCounts, well-port-is}
+use Rattle.table.specs.Head.{wellCounts}
+use Rattle.table.proofs.Head.{well-port-is}
 use Rattle.cells.specs.Cells.{countsOf, portOf, portHolds}
 use Rattle.well.specs.Judged.{portFine}
 use Rattle.well.proofs.port_fine.Statement.{statement}

@@ -3,7 +3,7 @@ use mathlib.Core.Bool.{and-assoc}
 use borrow.Author.Needs.{needs}
 use Rattle.table.specs.Head.{wellCounts}
 use Rattle.cells.specs.Cells.{countsOf}
-use Rattle.well.specs.Laws.{max-small}
+use Rattle.well.proofs.Laws.{max-small}
 use Rattle.well.proofs.top.Statement.{statement}
 use Rattle.well.proofs.top.Tie as tie
 

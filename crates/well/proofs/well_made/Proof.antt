@@ -10,10 +10,11 @@ use borrow.Author.Tests.{not-true, not-false}
 use lib.Dec.{eqb}
 use denote.Ref.{now}
 use Rattle.lists.specs.Bits.{one}
-use Rattle.lists.specs.Every.{every, every-next}
+use Rattle.lists.specs.Every.{every}
+use Rattle.lists.proofs.Every.{every-next}
 use Rattle.cells.specs.Cells.{countCell}
 use Rattle.well.specs.Judged.{headCells, portFine}
-use Rattle.well.specs.Laws.{all-fine, well-cells, head-long, head-count}
+use Rattle.well.proofs.Laws.{all-fine, well-cells, head-long, head-count}
 use Rattle.well.proofs.well_made.Statement.{statement}
 use Rattle.well.proofs.well_made.Tie as tie
 

@@ -1,7 +1,7 @@
 -- `first_read` is Held: what `read` answered is what the first statement says. Assumes nothing.
 use mathlib.Core.Path.{sym, _∙_}
 use denote.Ref.{now}
-use Rattle.held.specs.HeldFrames.{held-answered, held-refused, read-answered, read-refused}
+use Rattle.held.proofs.HeldFrames.{held-answered, held-refused, read-answered, read-refused}
 use borrow.Author.Needs.{needs}
 use Rattle.first.proofs.frames.first_read.Statement.{statement}
 use Rattle.first.proofs.frames.first_read.Tie as tie

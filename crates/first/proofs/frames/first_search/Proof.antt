@@ -1,7 +1,7 @@
 -- `first_search` is Held: what `search` answered is what the first statement says. Assumes nothing.
 use mathlib.Core.Path.{sym, _∙_}
 use denote.Ref.{now}
-use Rattle.held.specs.HeldFrames.{held-answered, held-refused, search-answered, search-refused}
+use Rattle.held.proofs.HeldFrames.{held-answered, held-refused, search-answered, search-refused}
 use borrow.Author.Needs.{needs}
 use Rattle.first.proofs.frames.first_search.Statement.{statement}
 use Rattle.first.proofs.frames.first_search.Tie as tie

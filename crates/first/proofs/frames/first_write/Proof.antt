@@ -3,8 +3,8 @@ use mathlib.Core.Path.{sym, _∙_, ap}
 use borrow.Author.Tests.{not-true, not-false}
 use denote.Ref.{now}
 use Rattle.judge.specs.Alike.{alike}
-use Rattle.held.specs.Held.{not-asked, held-answer, held-refusal}
-use Rattle.held.specs.HeldFrames.{write-answered, write-refused}
+use Rattle.held.proofs.Held.{not-asked, held-answer, held-refusal}
+use Rattle.held.proofs.HeldFrames.{write-answered, write-refused}
 use borrow.Author.Needs.{needs}
 use Rattle.first.proofs.frames.first_write.Statement.{statement}
 use Rattle.first.proofs.frames.first_write.Tie as tie

@@ -1,5 +1,5 @@
 -- `is_class` is document 01's class of two currents. Assumes nothing.
-use Rattle.history.specs.Readings.{class-low, class-twice}
+use Rattle.history.proofs.Readings.{class-low, class-twice}
 use Rattle.history.proofs.shown.is_class.Statement.{statement}
 use Rattle.history.proofs.shown.is_class.Tie as tie
 

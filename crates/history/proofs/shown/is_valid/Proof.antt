@@ -2,7 +2,7 @@
 use Prim.Native.Nat.{_+_, _≤_, _<_}
 use native.Mathlib.Omega.{arith}
 use borrow.Author.Needs.{needs}
-use Rattle.history.specs.Readings.{out-fails, flat-fails, steep, slope-is}
+use Rattle.history.proofs.Readings.{out-fails, flat-fails, steep, slope-is}
 use Rattle.history.proofs.shown.is_valid.Statement.{statement}
 use Rattle.history.proofs.shown.is_valid.Tie as tie
 

@@ -5,7 +5,8 @@ use native.Mathlib.Nat.{le-antisymm, le-refl}
 use native.Mathlib.Omega.{arith}
 use lib.ListN.{getD}
 use denote.Ref.{now}
-use Rattle.lists.specs.Places.{Filled, filled-none, filled-more, filled-all}
+use Rattle.lists.specs.Places.{Filled}
+use Rattle.lists.proofs.Places.{filled-none, filled-more, filled-all}
 use Rattle.history.specs.Marks.{notedMark, notedAll}
 use Rattle.history.proofs.shown.note.Statement.{statement}
 use Rattle.history.proofs.shown.note.Tie as tie

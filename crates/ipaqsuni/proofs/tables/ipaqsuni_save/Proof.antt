@@ -3,7 +3,7 @@
 use mathlib.Core.Path.{_∙_, sym}
 use denote.Ref.{now}
 use borrow.Author.Needs.{needs}
-use Rattle.ipaqsuni.specs.Calls.{saves-zero}
+use Rattle.ipaqsuni.proofs.Calls.{saves-zero}
 use Rattle.ipaqsuni.proofs.Saved.{number-room, number-cells}
 use Rattle.ipaqsuni.proofs.tables.ipaqsuni_save.Statement.{statement}
 use Rattle.ipaqsuni.proofs.tables.ipaqsuni_save.Tie as tie

@@ -9,8 +9,9 @@ use Rattle.cells.specs.Cells.{tableOf}
 use Rattle.ill.specs.Ill.{illCells}
 use Rattle.interface.specs.Statement1C.{firstNumber, controlList}
 use Rattle.replies.specs.Calls.{controlRefusals}
-use Rattle.replies.specs.OnLaws.{AtPort, at-port}
-use Rattle.order.specs.Order.{ill-first, well-first, well-of, well-cells-of, alternative-at}
+use Rattle.replies.specs.OnLaws.{AtPort}
+use Rattle.replies.proofs.OnLaws.{at-port}
+use Rattle.order.proofs.Order.{ill-first, well-first, well-of, well-cells-of, alternative-at}
 use borrow.Author.Needs.{needs}
 use native.Mathlib.Omega.{arith}
 use Rattle.order.proofs.control_write.control_number.Statement.{statement}

@@ -6,7 +6,8 @@ use Prim.Native.Nat.{ℕ, _+_, _*_, _-_, _≤_}
 use native.Mathlib.Nat.{le-antisymm}
 use lib.ListN.{getD}
 use denote.Ref.{now}
-use Rattle.lists.specs.Total.{total, total-next}
+use Rattle.lists.specs.Total.{total}
+use Rattle.lists.proofs.Total.{total-next}
 use Rattle.power.specs.Power.{tenths}
 use Rattle.port.specs.States.{closed}
 use Rattle.table.specs.Drawn.{draws, closedSum}
@@ -14,7 +15,7 @@ use Rattle.table.specs.Form.{portAt, withPort}
 use Rattle.cells.specs.Cells.{countCell, tableOf}
 use Rattle.cells.specs.Codes.{stateOf}
 use Rattle.replies.specs.Calls.{granting}
-use Rattle.replies.specs.OnLaws.{draws-with}
+use Rattle.replies.proofs.OnLaws.{draws-with}
 use borrow.Author.Needs.{needs}
 use native.Mathlib.Omega.{arith}
 use Rattle.order.proofs.request.demands_with.Statement.{statement}

@@ -1,5 +1,5 @@
 -- `drawn` is the demand of a closed state, by the codes of the three that are. Assumes nothing.
-use Rattle.cells.specs.CodeLaws.{closed-code}
+use Rattle.cells.proofs.CodeLaws.{closed-code}
 use borrow.Author.Needs.{needs}
 use Rattle.order.proofs.request.drawn.Statement.{statement}
 use Rattle.order.proofs.request.drawn.Tie as tie

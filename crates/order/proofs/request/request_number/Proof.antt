@@ -14,8 +14,9 @@ use Rattle.class.specs.Class.{budgets, budgetOf}
 use Rattle.table.specs.Drawn.{closedSum}
 use Rattle.table.specs.Form.{portAt}
 use Rattle.replies.specs.Calls.{levelOf, granting, overSupply, requestRefusals}
-use Rattle.replies.specs.OnLaws.{AtPort, at-port}
-use Rattle.order.specs.Order.{ill-first, well-first, well-of, well-cells-of, power-on-at, class-over, supply-over}
+use Rattle.replies.specs.OnLaws.{AtPort}
+use Rattle.replies.proofs.OnLaws.{at-port}
+use Rattle.order.proofs.Order.{ill-first, well-first, well-of, well-cells-of, power-on-at, class-over, supply-over}
 use borrow.Author.Needs.{needs}
 use native.Mathlib.Omega.{arith}
 use Rattle.order.proofs.request.request_number.Statement.{statement}

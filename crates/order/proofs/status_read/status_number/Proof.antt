@@ -9,7 +9,7 @@ use Rattle.cells.specs.Cells.{tableOf}
 use Rattle.ill.specs.Ill.{illCells}
 use Rattle.interface.specs.Statement1C.{firstNumber, statusList}
 use Rattle.replies.specs.Calls.{statusRefusals}
-use Rattle.order.specs.Order.{ill-first, well-first, well-cells-of}
+use Rattle.order.proofs.Order.{ill-first, well-first, well-cells-of}
 use borrow.Author.Needs.{needs}
 use native.Mathlib.Omega.{arith}
 use Rattle.order.proofs.status_read.status_number.Statement.{statement}

@@ -9,7 +9,7 @@ use lib.Dec.{leb}
 use Rattle.lists.specs.Bits.{above}
 use Rattle.lists.specs.Every.{someBelow}
 use Rattle.sample.specs.Sample.{wordAt, sampleAt, reservedFlags}
-use Rattle.order.specs.Order.{some-next}
+use Rattle.order.proofs.Order.{some-next}
 use borrow.Author.Needs.{needs}
 use native.Mathlib.Omega.{arith}
 use Rattle.order.proofs.ticking.bad_flags.Statement.{statement}

@@ -9,7 +9,7 @@ use Rattle.cells.specs.Cells.{tableOf}
 use Rattle.ill.specs.Ill.{illCells}
 use Rattle.interface.specs.Statement1C.{firstNumber, tickList}
 use Rattle.passes.specs.Tick.{flagsReserved, tickRefusals}
-use Rattle.order.specs.Order.{ill-first, well-first, well-cells-of}
+use Rattle.order.proofs.Order.{ill-first, well-first, well-cells-of}
 use borrow.Author.Needs.{needs}
 use native.Mathlib.Omega.{arith}
 use Rattle.order.proofs.ticking.tick_number.Statement.{statement}

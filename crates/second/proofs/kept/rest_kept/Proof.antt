@@ -9,7 +9,8 @@ use lib.Dec.{eqb}
 use lib.ListN.{getD}
 use borrow.Author.Needs.{needs}
 use denote.Ref.{now}
-use Rattle.lists.specs.Every.{every, every-next, every-of}
+use Rattle.lists.specs.Every.{every}
+use Rattle.lists.proofs.Every.{every-next, every-of}
 use Rattle.second.specs.Kept.{mayChange, restKept}
 use Rattle.second.proofs.kept.rest_kept.Statement.{statement}
 use Rattle.second.proofs.kept.rest_kept.Tie as tie

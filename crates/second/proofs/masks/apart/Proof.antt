@@ -6,7 +6,8 @@ use native.Mathlib.Nat.{le-antisymm}
 use native.Mathlib.Omega.{arith}
 use borrow.Author.Needs.{needs}
 use Rattle.lists.specs.Bits.{bit}
-use Rattle.lists.specs.Every.{every, every-next, every-of}
+use Rattle.lists.specs.Every.{every}
+use Rattle.lists.proofs.Every.{every-next, every-of}
 use Rattle.second.specs.Answers.{apart}
 use Rattle.second.proofs.masks.apart.Statement.{statement}
 use Rattle.second.proofs.masks.apart.Tie as tie

@@ -9,7 +9,8 @@ use lib.Dec.{eqb}
 use borrow.Author.Needs.{needs}
 use denote.Ref.{now}
 use Rattle.lists.specs.Bits.{bit}
-use Rattle.lists.specs.Every.{every, every-next, every-of}
+use Rattle.lists.specs.Every.{every}
+use Rattle.lists.proofs.Every.{every-next, every-of}
 use Rattle.second.specs.Answers.{agree, closedCell, namedCell, bitsRight}
 use Rattle.second.proofs.masks.bits_right.Statement.{statement}
 use Rattle.second.proofs.masks.bits_right.Tie as tie

@@ -4,9 +4,11 @@ use Prim.Native.Nat.{ℕ, _+_, _-_, _≤_}
 use native.Mathlib.Nat.{le-antisymm}
 use native.Mathlib.Omega.{arith}
 use borrow.Author.Needs.{needs}
-use Rattle.lists.specs.Bits.{bit, one, one-small}
+use Rattle.lists.specs.Bits.{bit, one}
+use Rattle.lists.proofs.Bits.{one-small}
 use Rattle.lists.specs.Count.{count}
-use Rattle.lists.specs.Total.{total, total-next, total-zero}
+use Rattle.lists.specs.Total.{total}
+use Rattle.lists.proofs.Total.{total-next, total-zero}
 use Rattle.second.proofs.masks.ones_in.Statement.{statement}
 use Rattle.second.proofs.masks.ones_in.Tie as tie
 

@@ -9,7 +9,8 @@ use lib.Dec.{eqb}
 use lib.ListN.{getD}
 use borrow.Author.Needs.{needs}
 use denote.Ref.{now}
-use Rattle.lists.specs.Every.{every, every-next}
+use Rattle.lists.specs.Every.{every}
+use Rattle.lists.proofs.Every.{every-next}
 use Rattle.history.specs.declared.TickAnswer.{TickAnswer}
 use Rattle.third.specs.Answers.{closedIn, allShownIn}
 use Rattle.third.proofs.answers.all_shown.Statement.{statement}

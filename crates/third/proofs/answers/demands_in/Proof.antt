@@ -8,7 +8,8 @@ use native.Mathlib.Omega.{arith}
 use lib.ListN.{getD}
 use borrow.Author.Needs.{needs}
 use denote.Ref.{now}
-use Rattle.lists.specs.Total.{total, total-next}
+use Rattle.lists.specs.Total.{total}
+use Rattle.lists.proofs.Total.{total-next}
 use Rattle.history.specs.declared.TickAnswer.{TickAnswer}
 use Rattle.third.specs.Answers.{closedIn, demandsIn}
 use Rattle.third.proofs.answers.demands_in.Statement.{statement}

@@ -5,7 +5,8 @@ use Prim.Native.Nat.{ℕ, _-_, _≤_}
 use native.Mathlib.Nat.{le-antisymm}
 use native.Mathlib.Omega.{arith}
 use borrow.Author.Needs.{needs}
-use Rattle.lists.specs.Every.{every, every-next}
+use Rattle.lists.specs.Every.{every}
+use Rattle.lists.proofs.Every.{every-next}
 use Rattle.third.specs.Answers.{closedIn, noneLostIn}
 use Rattle.third.proofs.answers.none_lost.Statement.{statement}
 use Rattle.third.proofs.answers.none_lost.Tie as tie

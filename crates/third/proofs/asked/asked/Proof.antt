@@ -5,8 +5,9 @@ use mathlib.Core.Bool.{true, false, _&&_}
 use native.Mathlib.Omega.{arith}
 use lib.Dec.{leb, ltb}
 use borrow.Author.Tests.{ltb-false, eq-eqb, ne-eqb}
-use Rattle.lists.specs.Tests.{fails-right}
-use Rattle.third.specs.Asks.{asks, range-is}
+use Rattle.lists.proofs.Tests.{fails-right}
+use Rattle.third.specs.Asks.{asks}
+use Rattle.third.proofs.Asks.{range-is}
 use Rattle.third.proofs.asked.asked.Statement.{statement}
 use Rattle.third.proofs.asked.asked.Tie as tie
 

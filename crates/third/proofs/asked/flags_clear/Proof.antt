@@ -8,7 +8,8 @@ use lib.Dec.{eqb, ltb}
 use lib.ListN.{getD}
 use borrow.Author.Needs.{needs}
 use denote.Ref.{now}
-use Rattle.lists.specs.Every.{every, every-next}
+use Rattle.lists.specs.Every.{every}
+use Rattle.lists.proofs.Every.{every-next}
 use Rattle.third.specs.Asks.{flagsClear}
 use Rattle.third.proofs.asked.flags_clear.Statement.{statement}
 use Rattle.third.proofs.asked.flags_clear.Tie as tie

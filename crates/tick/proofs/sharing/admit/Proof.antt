@@ -9,10 +9,10 @@ use lib.ListN.{getD}
 use borrow.Author.Needs.{needs}
 use denote.Ref.{now}
 use Rattle.cells.specs.Cells.{portOf, written}
-use Rattle.cells.specs.Pass.{stage}
+use Rattle.cells.proofs.Pass.{stage}
 use Rattle.cells.specs.Writes.{withPortCells}
 use Rattle.settling.specs.Claim.{settlingChanges, settledAs}
-use Rattle.passes.specs.Moving.{come-none, come-all, come-long, come-class, come-settled}
+use Rattle.passes.proofs.Moving.{come-none, come-all, come-long, come-class, come-settled}
 use Rattle.share.specs.Share.{noClaim}
 use Rattle.claims.specs.Claimed.{isSet}
 use Rattle.passes.specs.Passes.{admittedBy}

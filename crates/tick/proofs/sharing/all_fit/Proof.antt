@@ -5,7 +5,7 @@ use mathlib.Core.Logic.{⊎-elim}
 use native.Mathlib.Omega.{arith}
 use lib.Dec.{leb}
 use borrow.Author.Tests.{le-leb, lt-leb}
-use Rattle.lists.specs.Places.{side}
+use Rattle.lists.proofs.Places.{side}
 use Rattle.tick.proofs.sharing.all_fit.Statement.{statement}
 use Rattle.tick.proofs.sharing.all_fit.Tie as tie
 

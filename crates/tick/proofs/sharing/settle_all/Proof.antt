@@ -8,8 +8,8 @@ use native.Mathlib.Omega.{arith}
 use lib.ListN.{getD}
 use denote.Ref.{now}
 use Rattle.cells.specs.Cells.{portOf, written}
-use Rattle.cells.specs.Pass.{stage}
-use Rattle.passes.specs.Moving.{come-none, come-all, come-long, come-class, come-settled}
+use Rattle.cells.proofs.Pass.{stage}
+use Rattle.passes.proofs.Moving.{come-none, come-all, come-long, come-class, come-settled}
 use Rattle.passes.specs.Passes.{settledBy}
 use Rattle.tick.proofs.sharing.settle_all.Statement.{statement}
 use Rattle.tick.proofs.sharing.settle_all.Tie as tie

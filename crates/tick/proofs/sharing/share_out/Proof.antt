@@ -13,8 +13,9 @@ use denote.Ref.{now}
 use Rattle.lists.specs.Total.{total}
 use Rattle.share.specs.declared.Claims.{Claims}
 use Rattle.cells.specs.Cells.{written}
-use Rattle.cells.specs.Laws.{written-cong}
-use Rattle.claims.specs.Claimed.{wants, ranksOn, demandsOn, wanted-in, claims-in}
+use Rattle.cells.proofs.Laws.{written-cong}
+use Rattle.claims.specs.Claimed.{wants, ranksOn, demandsOn}
+use Rattle.claims.proofs.Claimed.{wanted-in, claims-in}
 use Rattle.passes.specs.Passes.{keptOn, settledBy, admittedBy, sharedBy}
 use Rattle.tick.proofs.sharing.share_out.Statement.{statement}
 use Rattle.tick.proofs.sharing.share_out.Tie as tie

@@ -3,7 +3,7 @@
 use mathlib.Core.Bool.{false≢true}
 use native.Mathlib.Omega.{arith}
 use denote.Ref.{now}
-use Rattle.passes.specs.Moving.{eight-clear}
+use Rattle.passes.proofs.Moving.{eight-clear}
 use Rattle.tick.proofs.steps.clear_ahead.Statement.{statement}
 use Rattle.tick.proofs.steps.clear_ahead.Tie as tie
 

@@ -12,13 +12,14 @@ use borrow.Author.Needs.{needs}
 use denote.Ref.{now}
 use Rattle.lists.specs.Bits.{one}
 use Rattle.lists.specs.Every.{someBelow}
-use Rattle.lists.specs.Places.{Filled, filled-none, filled-more, filled-below}
+use Rattle.lists.specs.Places.{Filled}
+use Rattle.lists.proofs.Places.{filled-none, filled-more, filled-below}
 use Rattle.port.specs.Form.{quietly}
 use Rattle.port.specs.declared.form.Moved.{Moved}
 use Rattle.cells.specs.Cells.{portOf, written}
-use Rattle.cells.specs.Pass.{stage}
+use Rattle.cells.proofs.Pass.{stage}
 use Rattle.cells.specs.Writes.{withPortCells}
-use Rattle.passes.specs.Moving.{come-none, come-all, come-long, come-class, come-moved, come-stepped, come-over, filled-skip, some-skip}
+use Rattle.passes.proofs.Moving.{come-none, come-all, come-long, come-class, come-moved, come-stepped, come-over, filled-skip, some-skip}
 use Rattle.claims.specs.Claimed.{isSet}
 use Rattle.passes.specs.Passes.{wholeMove, markedMove, steppedPort, steppedLane}
 use Rattle.tick.proofs.steps.steps.Statement.{statement}

@@ -1,0 +1,4 @@
+pub mod Laws
+pub mod MaskLaws
+pub mod Settled
+pub mod Well

@@ -1,0 +1,8 @@
+pub mod EveryHistory
+pub mod LentLaws
+pub mod MarkLaws
+pub mod Plain
+pub mod Readings
+pub mod Running
+pub mod Spelled
+pub mod States

@@ -1,0 +1,3 @@
+pub mod Laws
+pub mod Statement1C
+pub mod Unique

@@ -1,0 +1,3 @@
+pub mod Quick
+pub mod SweepLaws
+pub mod Swept

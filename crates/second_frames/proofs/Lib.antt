@@ -1,0 +1,5 @@
+pub mod Held
+pub mod Means
+pub mod Right
+pub mod SameLaws
+pub mod Unique

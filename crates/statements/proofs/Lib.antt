@@ -1,0 +1,15 @@
+pub mod CallRows
+pub mod Cases
+pub mod Kept
+pub mod Limits
+pub mod MoveRows
+pub mod OtherBoard
+pub mod Reached
+pub mod Shows
+pub mod Statement1
+pub mod Statement2
+pub mod Statement3
+pub mod TlvRows
+pub mod Unique
+pub mod Weaker
+pub mod WrongCores

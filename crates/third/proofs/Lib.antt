@@ -1,0 +1,4 @@
+pub mod Asks
+pub mod Means
+pub mod Third
+pub mod Unique
