@@ -1,4 +1,5 @@
 pub mod First
+pub mod Means
 pub mod Port
 pub mod Shared
 pub mod Sharing
