@@ -1,6 +1,7 @@
 // The second demand, of the sharing of the supply in a tick: what is shed ranks after everything that is kept, what is kept fits, and the
-// first that is shed did not. It is asked where no port had latch 12 before the tick: then the shed ports are exactly those that have it after,
-// and no move is made a second time to tell them. What the ports' own moves come to is not judged.
+// first that is shed did not. A kept port draws what it claimed; and kept or shed, it is in the state that document 01 sends it to. It is asked
+// where no port had latch 12 before the tick: then the shed ports are exactly those that have it after, and no move is made a second time to tell
+// them. What the ports' own moves come to is not judged.
 mod ranking;
 
 use crate::ranking::claim;
@@ -22,6 +23,7 @@ ghost use Rattle.verdict.specs.declared.Verdict.the-variants.{Held, NotAsked};
 ghost use Rattle.second_sharing.specs.Shared.{deniedCell, noneDenied, placeCell, firstShed, portRight, portsRight, keptCells, sharesRight};
 ghost use Rattle.second.specs.Answers.{closedCell};
 
+// No port below the count has latch 12.
 fn none_denied(cells: &[u16]) -> bool
     requires { ⌜ length (now cells) ≡ 728 ⌝ }
     ensures { λ r. ⌜ r ≡ noneDenied (now (cells .entry)) ⌝ }
