@@ -14,6 +14,7 @@ use first::tables::first_tick;
 use second::second_tick;
 use second_frames::second_read;
 use second_frames::second_write;
+use second_sharing::second_shares;
 use verdict::Verdict;
 ghost use mathlib.Core.Path.{_≡_};
 ghost use mathlib.Core.Bool.{true};
@@ -64,8 +65,9 @@ pub fn call_on(kind: u8, room: &mut [u16], spare: &mut [u16], many: usize, body:
     call(kind, &mut room[..many], &spare[..many], body)
 }
 
-// The body is a tick's, whose port is not looked at. It is asked of a table's cells alone, and these stay as they are.
-pub fn second_on(room: &[u16], many: usize, body: &[u8]) -> Verdict
+// The body is a tick's, whose port is not looked at. It is asked of a table's cells alone, and these stay as they are. `k` asks how the tick
+// shares the supply, and `2` the rest.
+pub fn second_on(kind: u8, room: &[u16], many: usize, body: &[u8]) -> Verdict
     ensures { λ r. ⌜ unbroken r ≡ true ⌝ }
 {
     if many != 728 {
@@ -79,7 +81,11 @@ pub fn second_on(room: &[u16], many: usize, body: &[u8]) -> Verdict
     }
     let mut table = [0u16; 728];
     copy_cells(&room[..many], &mut table);
-    second_tick(table, &body[16..], number_at(body, 8))
+    let figure = number_at(body, 8);
+    if kind == b'k' {
+        return second_shares(table, &body[16..], figure);
+    }
+    second_tick(table, &body[16..], figure)
 }
 
 fn cell(high: u8, low: u8) -> u16 {

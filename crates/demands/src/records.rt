@@ -52,7 +52,7 @@ pub fn judged(kind: u8, body: &[u8], cells: &mut [u16], before: &mut [u16], many
         b'r' => Outcome::Came(first_read(body), many),
         b'w' | b'v' => Outcome::Came(write_in(kind, body), many),
         b'b' => Outcome::Came(second_read_in(body), many),
-        b'2' => Outcome::Came(second_on(cells, many, body), many),
+        b'2' | b'k' => Outcome::Came(second_on(kind, cells, many, body), many),
         b'3' => Outcome::Came(third_in(body), many),
         _ => Outcome::Came(call_on(kind, cells, before, many, body), many),
     }

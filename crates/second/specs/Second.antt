@@ -70,7 +70,7 @@ tickRight l m x figure = (answerRight m x && eqb (getD m 1 0) figure) && restKep
 
 -- ---- no move and no settling changes a control word
 
-step-control : (claim : Power) (p : Port) (r : Reading) → step claim p r .port .control ≡ p .control
+pub step-control : (claim : Power) (p : Port) (r : Reading) → step claim p r .port .control ≡ p .control
 unfolding enter
 step-control claim p r =
     step-outcome claim p r (λ (m : Moved). m .port .control ≡ p .control)
@@ -153,7 +153,7 @@ agree-self : (x : Bool) → agree x x ≡ true
 agree-self true = refl
 agree-self false = refl
 
-otherwise : (a b : Bool) → (a ≡ false → b ≡ true) → (a || b) ≡ true
+pub otherwise : (a b : Bool) → (a ≡ false → b ≡ true) → (a || b) ≡ true
 otherwise true b h = refl
 otherwise false b h = h refl
 
@@ -197,6 +197,19 @@ module _ (l block : List ℕ) (figure : ℕ) (zero : firstNumber (tickList l blo
       (λ (x : Stopped t (tick t block figure)). absurd (false≢true (sym (x .answer) ∙ runs)))
       (λ (x : Ran t block figure (tick t block figure)). rw (x .table) (tick-well t block (tenths figure) (x .well) (in-range figure (x .figure-in-range))))
       (tick-told t block figure)
+
+  -- for whoever says more of such a tick
+  pub ticked-are : Are (tick (tableOf l) block figure .table) (cellsTicked (tickOn l block figure) l)
+  ticked-are = are
+
+  pub ticked-so : Ticks (tableOf l) block figure (tick (tableOf l) block figure .table) (tick (tableOf l) block figure .answer)
+  ticked-so = so
+
+  pub ticked-well : wellMade (tick (tableOf l) block figure .table) ≡ true
+  ticked-well = well
+
+  pub table-before : isTable l ≡ true
+  table-before = is
 
   -- the cells after are the table after
   count-cell : u .count ≡ getD m 0 0

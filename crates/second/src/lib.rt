@@ -1,9 +1,8 @@
 // The second demand, of a tick: what is said of it without the core being written a second time. Covered: "bit p set exactly if port p is
 // closed and its control word names that alternative", so that no port stands in both masks; "a number of closed ports equal to the ones in
 // the two masks"; "the figure is then stored"; "places at or past the port count .. never change"; and that no control word does. Not covered:
-// "each port moves as the diagram rules of document 01 say", since a program could only repeat the core; and "the rule by which the supply is
-// shared": claims are ranked after the moves, and what was shed would have to be told by latch 12, which may stand from before. There the
-// definition is the statement: `Ticks` and `Settles` of the crate `statements`.
+// "each port moves as the diagram rules of document 01 say", since a program could only repeat the core: there the definition is the statement,
+// `Ticks` of the crate `statements`. "The rule by which the supply is shared" has a program of its own, in the crate `second_sharing`.
 mod kept;
 mod masks;
 
