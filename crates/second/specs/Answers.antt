@@ -1,7 +1,6 @@
 -- What a tick answered, and the cells that it left.
 -- Assumes nothing.
 use Prim.Native.Nat.{ℕ, _+_, _/_, _%_}
-use mathlib.Core.Path.{_≡_, sym, _∙_, ap, ap₂}
 use mathlib.Core.Bool.{Bool, false, not, _&&_, _||_}
 use mathlib.Core.List.{List}
 use lib.Dec.{eqb, ltb}
@@ -35,10 +34,3 @@ apart a b = every 64 (λ p. not (bit p a && bit p b))
 unfoldable pub answerRight : List ℕ → Closed → Bool
 answerRight l (Ports a b n) = ((apart a b && bitsRight l a 1) && bitsRight l b 2) && eqb (count 64 (λ p. bit p a) + count 64 (λ p. bit p b)) n
 answerRight l (Refused k) = false
-
--- the program's four tests
-pub tests-right : (l : List ℕ) (a b n : ℕ) (x : Closed) (p q r : Bool) (i j : ℕ) → p ≡ apart a b → q ≡ bitsRight l a 1 → r ≡ bitsRight l b 2
-    → i ≡ count 64 (λ k. bit k a) → j ≡ count 64 (λ k. bit k b) → x ≡ Ports a b n → (((p && q) && r) && eqb (i + j) n) ≡ answerRight l x
-unfolding answerRight
-tests-right l a b n x p q r i j ep eq er ei ej e =
-    ap₂ _&&_ (ap₂ _&&_ (ap₂ _&&_ ep eq) er) (ap (λ (k : ℕ). eqb k n) (ap₂ _+_ ei ej)) ∙ ap (answerRight l) (sym e)

@@ -2,7 +2,7 @@
 -- stands here in the words of the source up to names, as in `Unique` of the crate `statements`.
 -- Assumes nothing.
 use Prim.Native.Nat.{ℕ}
-use mathlib.Core.Path.{_≡_, sym, _∙_}
+use mathlib.Core.Path.{_≡_}
 use mathlib.Core.Bool.{cond}
 use mathlib.Core.List.{List}
 use lib.Dec.{eqb}
@@ -16,9 +16,3 @@ One A promise = (r s : A) → promise r → promise s → r ≡ s
 
 pub record Unique : Type 0 where
   pub second-second-tick : (before block : List ℕ) (figure : ℕ) → One Verdict (λ r. r ≡ cond (eqb (firstNumber (tickList before block figure)) 0) Held NotAsked)
-
-one : {A : Type 0} (x : A) → One A (λ r. r ≡ x)
-one x r s p q = p ∙ sym q
-
-pub unique : Unique
-unique = record { second-second-tick = λ before block figure. one _ }

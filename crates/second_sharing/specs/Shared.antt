@@ -2,10 +2,8 @@
 -- are those that have it after, and the kept ones those that are closed after.
 -- Assumes nothing.
 use Prim.Native.Nat.{ℕ, zero, suc, _+_, _*_, _/_, _%_, min}
-use mathlib.Core.Path.{_≡_}
 use mathlib.Core.Bool.{Bool, cond, not, _&&_, _||_}
 use mathlib.Core.List.{List}
-use native.Mathlib.Numerals.{add-one}
 use lib.Dec.{eqb, leb, ltb}
 use lib.ListN.{getD}
 use Rattle.lists.specs.Bits.{bit}
@@ -68,8 +66,3 @@ sharesRight l m figure =
     portsRight l m (firstShed l m 48)
     && (leb (keptCells m) figure
     && (eqb (firstShed l m 48) 384 || ltb figure (keptCells m + claimCell l m (firstShed l m 48 % 64))))
-
--- one place more, as a loop counts
-pub first-next : (l m : List ℕ) (n : ℕ) → firstShed l m (n + 1) ≡ min (firstShed l m n) (cond (deniedCell m n) (placeCell l n) 384)
-unfolding firstShed
-first-next l m n = rw add-one

@@ -2,7 +2,7 @@
 -- words of the source up to names, as in `Unique` of the crate `statements`.
 -- Assumes nothing.
 use Prim.Native.Nat.{ℕ}
-use mathlib.Core.Path.{_≡_, sym, _∙_}
+use mathlib.Core.Path.{_≡_}
 use mathlib.Core.Bool.{cond, _&&_}
 use mathlib.Core.List.{List}
 use lib.Dec.{eqb}
@@ -14,9 +14,3 @@ use Rattle.second_sharing.specs.Shared.{noneDenied}
 
 pub record Unique : Type 0 where
   pub second-sharing-second-shares : (before block : List ℕ) (figure : ℕ) → One Verdict (λ r. r ≡ cond (eqb (firstNumber (tickList before block figure)) 0 && noneDenied before) Held NotAsked)
-
-one : {A : Type 0} (x : A) → One A (λ r. r ≡ x)
-one x r s p q = p ∙ sym q
-
-pub unique : Unique
-unique = record { second-sharing-second-shares = λ before block figure. one _ }

@@ -3,7 +3,7 @@
 use borrow.Author.Needs.{needs}
 use lib.ListN.{length}
 use mathlib.Core.Path.{_≡_}
-use Rattle.demands.specs.Unbroken.{of-came}
+use Rattle.demands.proofs.Unbroken.{of-came}
 use Rattle.demands.proofs.run.Statement.{statement}
 use Rattle.demands.proofs.run.Tie as tie
 

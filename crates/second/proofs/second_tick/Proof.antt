@@ -3,7 +3,7 @@ use mathlib.Core.Path.{sym, _∙_}
 use borrow.Author.Needs.{needs}
 use borrow.Author.Tests.{eq-eqb, ne-eqb}
 use Rattle.lists.proofs.Tests.{not-both}
-use Rattle.second.specs.Second.{right-in}
+use Rattle.second.proofs.Second.{right-in}
 use Rattle.second.proofs.second_tick.Statement.{statement}
 use Rattle.second.proofs.second_tick.Tie as tie
 

@@ -6,7 +6,8 @@ use native.Mathlib.Nat.{le-antisymm}
 use native.Mathlib.Omega.{arith}
 use borrow.Author.Needs.{needs}
 use denote.Ref.{now}
-use Rattle.second_sharing.specs.Shared.{deniedCell, placeCell, firstShed, first-next}
+use Rattle.second_sharing.specs.Shared.{deniedCell, placeCell, firstShed}
+use Rattle.second_sharing.proofs.Shared.{first-next}
 use Rattle.second_sharing.proofs.first_shed.Statement.{statement}
 use Rattle.second_sharing.proofs.first_shed.Tie as tie
 

@@ -8,7 +8,8 @@ use native.Mathlib.Omega.{arith}
 use lib.ListN.{getD}
 use borrow.Author.Needs.{needs}
 use denote.Ref.{now}
-use Rattle.lists.specs.Total.{total, total-next, total-zero}
+use Rattle.lists.specs.Total.{total}
+use Rattle.lists.proofs.Total.{total-next, total-zero}
 use Rattle.second.specs.Answers.{closedCell}
 use Rattle.second_sharing.specs.Shared.{keptCells}
 use Rattle.second_sharing.proofs.kept_sum.Statement.{statement}

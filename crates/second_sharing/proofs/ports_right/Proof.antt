@@ -6,7 +6,8 @@ use native.Mathlib.Nat.{le-antisymm}
 use native.Mathlib.Omega.{arith}
 use borrow.Author.Needs.{needs}
 use denote.Ref.{now}
-use Rattle.lists.specs.Every.{every, every-next, every-of}
+use Rattle.lists.specs.Every.{every}
+use Rattle.lists.proofs.Every.{every-next, every-of}
 use Rattle.second_sharing.specs.Shared.{portRight, portsRight}
 use Rattle.second_sharing.proofs.ports_right.Statement.{statement}
 use Rattle.second_sharing.proofs.ports_right.Tie as tie

@@ -2,8 +2,8 @@
 use mathlib.Core.Path.{sym, _∙_}
 use borrow.Author.Needs.{needs}
 use borrow.Author.Tests.{eq-eqb, ne-eqb, not-true, not-false}
-use Rattle.lists.specs.Tests.{not-both}
-use Rattle.second_sharing.specs.Sharing.{shares-in}
+use Rattle.lists.proofs.Tests.{not-both}
+use Rattle.second_sharing.proofs.Sharing.{shares-in}
 use Rattle.second_sharing.proofs.second_shares.Statement.{statement}
 use Rattle.second_sharing.proofs.second_shares.Tie as tie
 

@@ -1,7 +1,7 @@
 -- `call` is safe, and never Broken: each demand's program promises so.
 -- Assumes nothing.
 use borrow.Author.Needs.{needs}
-use Rattle.demands.specs.Unbroken.{either}
+use Rattle.demands.proofs.Unbroken.{either}
 use Rattle.demands.proofs.calls_on.call.Statement.{statement}
 use Rattle.demands.proofs.calls_on.call.Tie as tie
 

@@ -4,7 +4,7 @@ use borrow.Author.Needs.{needs}
 use mathlib.Core.Path.{sym}
 use native.Mathlib.Omega.{arith}
 use lib.Seq.{length-take-le}
-use Rattle.demands.specs.Unbroken.{either}
+use Rattle.demands.proofs.Unbroken.{either}
 use Rattle.demands.proofs.calls_on.second_on.Statement.{statement}
 use Rattle.demands.proofs.calls_on.second_on.Tie as tie
 

@@ -1,7 +1,7 @@
 -- `second_read_in` is never Broken: the second demand's program promises so.
 -- Assumes nothing.
 use borrow.Author.Needs.{needs}
-use Rattle.demands.specs.Unbroken.{either}
+use Rattle.demands.proofs.Unbroken.{either}
 use Rattle.demands.proofs.calls_on.second_read_in.Statement.{statement}
 use Rattle.demands.proofs.calls_on.second_read_in.Tie as tie
 

@@ -1,7 +1,7 @@
 -- `third_in` is safe, and never Broken: the third demand's program promises so.
 -- Assumes nothing.
 use borrow.Author.Needs.{needs}
-use Rattle.demands.specs.Unbroken.{either}
+use Rattle.demands.proofs.Unbroken.{either}
 use Rattle.demands.proofs.records.third_in.Statement.{statement}
 use Rattle.demands.proofs.records.third_in.Tie as tie
 

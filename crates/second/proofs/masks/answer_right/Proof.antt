@@ -1,6 +1,7 @@
 -- `answer_right` is its four tests. Assumes nothing.
 use borrow.Author.Needs.{needs}
-use Rattle.second.specs.Answers.{answerRight, tests-right}
+use Rattle.second.specs.Answers.{answerRight}
+use Rattle.second.proofs.Answers.{tests-right}
 use Rattle.second.proofs.masks.answer_right.Statement.{statement}
 use Rattle.second.proofs.masks.answer_right.Tie as tie
 

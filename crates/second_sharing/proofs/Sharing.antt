@@ -10,10 +10,11 @@ use lib.Dec.{eqb, ltb}
 use lib.ListN.{length, getD}
 use borrow.Author.Tests.{lt-ltb, le-ltb, ltb-true, le-leb, leb-true, eq-eqb, eqb-true, not-true}
 use Rattle.lists.specs.Bits.{field, choose}
-use Rattle.lists.specs.Every.{every-at, every-of}
-use Rattle.lists.specs.Places.{side, tabulate, tabulate-at}
-use Rattle.lists.specs.Tests.{passed, not-both, and-left, and-right, and-both, or-left, or-right}
-use Rattle.lists.specs.Total.{total-cong}
+use Rattle.lists.proofs.Every.{every-at, every-of}
+use Rattle.lists.proofs.Places.{side, tabulate-at}
+use Rattle.lists.specs.Places.{tabulate}
+use Rattle.lists.proofs.Tests.{passed, not-both, and-left, and-right, and-both, or-left, or-right}
+use Rattle.lists.proofs.Total.{total-cong}
 use Rattle.power.specs.Power.{forced}
 use Rattle.power.specs.declared.Power.{Power}
 use Rattle.sample.specs.Sample.{sampleAt}
@@ -24,15 +25,15 @@ use Rattle.port.specs.States.{codeOf, closed, inTest, isIdle}
 use Rattle.port.specs.declared.form.Port.{Port}
 use Rattle.settling.specs.Settle.{urgency, settled}
 use Rattle.block.specs.Digest.{digest}
-use Rattle.share.specs.Laws.{before-cases, before-total, kept-claims, shed-after, longest, kept-sum-fits}
+use Rattle.share.proofs.Laws.{before-cases, before-total, kept-claims, shed-after, longest, kept-sum-fits}
 use Rattle.share.specs.Share.{claims, before, sumWhere, keeps, keptSum}
 use Rattle.table.specs.Form.{portAt}
-use Rattle.table.specs.Laws.{well-count}
+use Rattle.table.proofs.Laws.{well-count}
 use Rattle.table.specs.declared.form.Table.{Table}
 use Rattle.cells.specs.Cells.{tableOf, portOf, portHolds, isTable}
-use Rattle.cells.specs.CodeLaws.{closed-code, code-again}
+use Rattle.cells.proofs.CodeLaws.{closed-code, code-again}
 use Rattle.cells.specs.Codes.{stateOf, latchesOf}
-use Rattle.cells.specs.Laws.{table-at}
+use Rattle.cells.proofs.Laws.{table-at}
 use Rattle.cells.specs.Lent.{cellsTicked}
 use Rattle.boards.specs.Sharing.{rankAt, claimAt}
 use Rattle.passes.specs.OnCells.{tickOn}
@@ -40,9 +41,9 @@ use Rattle.passes.specs.Tick.{movedAt, tick}
 use Rattle.interface.specs.Statement1C.{firstNumber, tickList}
 use Rattle.statements.specs.Statement2.{Ticks, moves}
 use Rattle.second.specs.Answers.{closedCell}
-use Rattle.second.specs.Second.{step-control, otherwise, ticked-are, ticked-so, ticked-well, table-before}
-use Rattle.second_sharing.specs.First.{First, first-lowest, first-of}
-use Rattle.second_sharing.specs.Port.{Shares, claimOf, move-claims, move-denies, port-shares}
+use Rattle.second.proofs.Second.{step-control, otherwise, ticked-are, ticked-so, ticked-well, table-before}
+use Rattle.second_sharing.proofs.First.{First, first-lowest, first-of}
+use Rattle.second_sharing.proofs.Port.{Shares, claimOf, move-claims, move-denies, port-shares}
 use Rattle.second_sharing.specs.Shared.{deniedCell, noneDenied, urgencyCell, placeCell, claimCell, firstShed, enteredCell, leftCell, portRight, portsRight, keptCells, sharesRight}
 
 -- ---- the cells of one port, and the port

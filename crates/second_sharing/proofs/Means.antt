@@ -11,15 +11,16 @@ use native.Mathlib.Omega.{arith}
 use lib.Dec.{eqb, leb, ltb}
 use lib.ListN.{getD}
 use borrow.Author.Tests.{lt-ltb, lt-leb, ltb-true, leb-true, eqb-true}
-use Rattle.lists.specs.Every.{every-at}
-use Rattle.lists.specs.Tests.{passed, and-left, and-right, and-both, or-left, or-right, or-either, choice}
-use Rattle.lists.specs.Total.{total-cong}
-use Rattle.share.specs.Laws.{before-cases, before-total, met-cases, met-claims, sum-less, fits-kept, down-to, shed-after}
+use Rattle.lists.proofs.Every.{every-at}
+use Rattle.lists.proofs.Tests.{passed, and-left, and-right, and-both, or-left, or-right, or-either}
+use Rattle.lists.specs.Tests.{choice}
+use Rattle.lists.proofs.Total.{total-cong}
+use Rattle.share.proofs.Laws.{before-cases, before-total, met-cases, met-claims, sum-less, fits-kept, down-to, shed-after}
 use Rattle.share.specs.Share.{claims, before, met, sumWhere, down, keeps}
 use Rattle.share.specs.Walk.{walked, isIn}
-use Rattle.share.specs.WalkLaws.{walk-keeps}
+use Rattle.share.proofs.WalkLaws.{walk-keeps}
 use Rattle.second.specs.Answers.{closedCell}
-use Rattle.second_sharing.specs.First.{First, first-lowest, first-of}
+use Rattle.second_sharing.proofs.First.{First, first-lowest, first-of}
 use Rattle.second_sharing.specs.Shared.{deniedCell, urgencyCell, placeCell, claimCell, firstShed, enteredCell, leftCell, portRight, portsRight, keptCells, sharesRight}
 
 -- the rank of a port that was kept or shed; any other claimed nothing

@@ -7,8 +7,8 @@ use mathlib.Core.List.{List}
 use mathlib.Core.Logic.{_⊎_, inl, inr, ⊎-elim}
 use native.Mathlib.Nat.{not-suc-le-zero, eq-or-lt-of-le, le-of-suc-le-suc, le-refl}
 use native.Mathlib.Omega.{arith}
-use Rattle.lists.specs.Places.{side}
-use Rattle.lists.specs.Tests.{passed}
+use Rattle.lists.proofs.Places.{side}
+use Rattle.lists.proofs.Tests.{passed}
 use Rattle.second_sharing.specs.Shared.{deniedCell, placeCell, firstShed}
 
 module _ (l m : List ℕ) where

@@ -7,7 +7,8 @@ use mathlib.Core.Logic.{⊎-elim}
 use native.Mathlib.Omega.{arith}
 use lib.Dec.{ltb}
 use borrow.Author.Tests.{lt-leb, lt-ltb}
-use Rattle.lists.specs.Tests.{passed, not-both, choice}
+use Rattle.lists.proofs.Tests.{passed, not-both}
+use Rattle.lists.specs.Tests.{choice}
 use Rattle.power.specs.Power.{forced}
 use Rattle.power.specs.declared.Power.{Power}
 use Rattle.sample.specs.Sample.{flagsOf}
@@ -26,12 +27,12 @@ use Rattle.port.specs.declared.form.Port.{Port}
 use Rattle.port.specs.declared.form.Reading.{Reading}
 use Rattle.port.specs.declared.form.State.{State}
 use Rattle.port.specs.declared.form.State.the-variants.{Idle, Classifying, ErrorDelay, TestError}
-use Rattle.outcomes.specs.Outcomes.{faulted, step-outcome}
+use Rattle.outcomes.proofs.Outcomes.{faulted, step-outcome}
 use Rattle.diagram.specs.Step.{step}
-use Rattle.settling.specs.Claim.{urgency-small}
+use Rattle.settling.proofs.Claim.{urgency-small}
 use Rattle.settling.specs.Settle.{urgency, rank, granted, shed, settled}
 use Rattle.block.specs.Digest.{classingOf, digest}
-use Rattle.boards.specs.Settled.{shed-open}
+use Rattle.boards.proofs.Settled.{shed-open}
 
 -- ---- what a move can claim
 
