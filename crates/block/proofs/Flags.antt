@@ -6,13 +6,14 @@ use mathlib.Core.Bool.{true}
 use mathlib.Core.List.{List}
 use lib.ListN.{length}
 use borrow.Author.Tests.{le-leb, eq-eqb}
+use Rattle.sizes.specs.Sizes.{mostPorts, sampleBytes}
 use Rattle.block.specs.Flags.{flagsFine, flagLane, flagsFit, flagsClean, flagsLaid}
 
-module _ (n : ℕ) (block lane : List ℕ) (few : n ≤ 48) (sized : length block ≡ 14 * n) (long : length lane ≡ 48) where
+module _ (n : ℕ) (block lane : List ℕ) (few : n ≤ mostPorts) (sized : length block ≡ sampleBytes * n) (long : length lane ≡ mostPorts) where
   -- ---- where they fit
   fits : flagsFit n block lane ≡ true
   unfolding flagsFit
-  fits = simp (le-leb n 48 few, eq-eqb _ _ sized, eq-eqb _ _ long)
+  fits = simp (le-leb n mostPorts few, eq-eqb _ _ sized, eq-eqb _ _ long)
 
   pub fit-clean : flagsClean n block lane ≡ flagsFine n block
   unfolding flagsClean

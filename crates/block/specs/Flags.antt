@@ -5,13 +5,14 @@ use mathlib.Core.Bool.{Bool, cond, not, _&&_}
 use mathlib.Core.List.{List}
 use lib.Dec.{ltb, leb, eqb}
 use lib.ListN.{length, getD, set}
+use Rattle.sizes.specs.Sizes.{mostPorts, sampleBytes}
 use Rattle.lists.specs.Every.{every}
 use Rattle.lists.specs.Places.{tabulate}
 use Rattle.sample.specs.Sample.{sampleAt, reservedFlags}
 
 -- a port's flags in the block: "14 bytes a port, in port order"
 unfoldable pub flagsOfPort : List ℕ → ℕ → ℕ
-flagsOfPort block p = sampleAt block (14 * p) .flags
+flagsOfPort block p = sampleAt block (sampleBytes * p) .flags
 
 -- no sample of the first n has reserved flags
 unfoldable pub flagsFine : ℕ → List ℕ → Bool
@@ -19,11 +20,11 @@ flagsFine n block = every n (λ p. not (reservedFlags (flagsOfPort block p)))
 
 -- a lane with the flags of the first n ports
 unfoldable pub flagLane : ℕ → List ℕ → List ℕ → List ℕ
-flagLane n block lane = tabulate 48 (λ p. cond (ltb p n) (flagsOfPort block p) (getD lane p 0))
+flagLane n block lane = tabulate mostPorts (λ p. cond (ltb p n) (flagsOfPort block p) (getD lane p 0))
 
 -- the block is as long as n ports make it, and the lane has a place for each
 unfoldable pub flagsFit : ℕ → List ℕ → List ℕ → Bool
-flagsFit n block lane = leb n 48 && (eqb (length block) (14 * n) && eqb (length lane) 48)
+flagsFit n block lane = leb n mostPorts && (eqb (length block) (sampleBytes * n) && eqb (length lane) mostPorts)
 
 unfoldable pub flagsClean : ℕ → List ℕ → List ℕ → Bool
 flagsClean n block lane = flagsFit n block lane && flagsFine n block

@@ -1,23 +1,26 @@
 // What a tick reads off its sample block: the flags of every port, and what a port's sample tells its move.
 pub mod digest;
 
+use sizes::PORTS;
+use sizes::SAMPLE;
 ghost use mathlib.Core.Path.{_≡_};
 ghost use Prim.Native.Nat.{_+_, _*_, _/_, _<_, _≤_};
 ghost use lib.ListN.{length};
+ghost use Rattle.sizes.specs.Sizes.{mostPorts, sampleBytes};
 ghost use Rattle.block.specs.Flags.{flagsOfPort, flagsFine, flagLane, eightFine, eightLaid, flagsClean, flagsLaid};
 
 // A port's flags alone: most moves look at nothing else.
 fn flags_at(block: &[u8], port: usize) -> u16
-    requires { ⌜ port < length (now block) / 14 ⌝ }
+    requires { ⌜ port < length (now block) / sampleBytes ⌝ }
     ensures { λ r. ⌜ r ≡ flagsOfPort (now (block .entry)) port ⌝ }
 {
-    let at = 14 * port + 12;
+    let at = SAMPLE * port + 12;
     block[at] as u16 * 256 + block[at + 1] as u16
 }
 
 // Eight ports at a time: a compiler that is shown one would gather bytes for many, which takes twice as long.
 fn eight_flags(block: &[u8], i: usize, lane: &mut [u16]) -> bool
-    requires { ⌜ (i + 7 < length (now block) / 14) × (i + 7 < 48) × (length (now lane) ≡ 48) ⌝ }
+    requires { ⌜ (i + 7 < length (now block) / sampleBytes) × (i + 7 < mostPorts) × (length (now lane) ≡ mostPorts) ⌝ }
     ensures { λ r. ⌜ r ≡ eightFine (now (block .entry)) i ⌝ }
     ensures { λ _. ⌜ now (lane .exit) ≡ eightLaid (now (block .entry)) i (now (lane .entry)) ⌝ }
 {
@@ -42,7 +45,7 @@ fn eight_flags(block: &[u8], i: usize, lane: &mut [u16]) -> bool
 
 // All flags are read, also past one that is not fine: a loop that may end early takes longer.
 fn all_flags(block: &[u8], n: usize, lane: &mut [u16]) -> bool
-    requires { ⌜ (length (now block) ≡ 14 * n) × (n ≤ 48) × (length (now lane) ≡ 48) ⌝ }
+    requires { ⌜ (length (now block) ≡ sampleBytes * n) × (n ≤ mostPorts) × (length (now lane) ≡ mostPorts) ⌝ }
     ensures { λ r. ⌜ r ≡ flagsFine n (now (block .entry)) ⌝ }
     ensures { λ _. ⌜ now (lane .exit) ≡ flagLane n (now (block .entry)) (now (lane .entry)) ⌝ }
 {
@@ -66,13 +69,13 @@ pub fn flags_into(block: &[u8], n: usize, lane: &mut [u16]) -> bool
     ensures { λ r. ⌜ r ≡ flagsClean n (now (block .entry)) (now (lane .entry)) ⌝ }
     ensures { λ _. ⌜ now (lane .exit) ≡ flagsLaid n (now (block .entry)) (now (lane .entry)) ⌝ }
 {
-    if 48 < n {
+    if PORTS < n {
         return false;
     }
-    if block.len() != 14 * n {
+    if block.len() != SAMPLE * n {
         return false;
     }
-    if lane.len() != 48 {
+    if lane.len() != PORTS {
         return false;
     }
     all_flags(block, n, lane)

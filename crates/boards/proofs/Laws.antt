@@ -8,6 +8,7 @@ use native.Mathlib.Nat.{le-trans}
 use native.Mathlib.Omega.{arith}
 use lib.Dec.{leb, ltb}
 use borrow.Author.Tests.{lt-ltb, le-ltb, ltb-true}
+use Rattle.sizes.specs.Sizes.{mostPorts}
 use Rattle.lists.proofs.Places.{getD-tabulate}
 use Rattle.lists.proofs.Tests.{and-left, and-right}
 use Rattle.lists.proofs.Total.{total-mono, total-fewer}
@@ -22,7 +23,7 @@ use Rattle.port.specs.declared.form.Port.{Port}
 use Rattle.share.proofs.Laws.{more-keeps, kept-sum-fits}
 use Rattle.share.specs.Share.{noClaim, keeps, sumWhere, keptSum}
 use Rattle.table.specs.Drawn.{closedAt, draws, closedSum}
-use Rattle.table.specs.Form.{places, noPort, portAt}
+use Rattle.table.specs.Form.{noPort, portAt}
 use Rattle.table.specs.declared.form.Table.{Table}
 use Rattle.boards.proofs.Settled.{settled-mono, settled-draws, settled-latches, no-claim-open}
 use Rattle.boards.specs.Sharing.{rankAt, claimAt, keptAt, settledAt, portAfter, latchedAt, tableAfter}
@@ -53,20 +54,20 @@ module _ (t : Table) (moved : ℕ → Moved) where
     unfolding tableAfter
     supply-after = refl
 
-    pub port-after-at : (p : ℕ) → p < places → portAt (tableAfter t moved supply) p ≡ portAfter t moved supply p
+    pub port-after-at : (p : ℕ) → p < mostPorts → portAt (tableAfter t moved supply) p ≡ portAfter t moved supply p
     unfolding portAt tableAfter
-    port-after-at p l = getD-tabulate places (portAfter t moved supply) noPort p l
+    port-after-at p l = getD-tabulate mostPorts (portAfter t moved supply) noPort p l
 
-    pub port-past : (p : ℕ) → p < places → t .count ≤ p → portAt (tableAfter t moved supply) p ≡ portAt t p
+    pub port-past : (p : ℕ) → p < mostPorts → t .count ≤ p → portAt (tableAfter t moved supply) p ≡ portAt t p
     unfolding portAfter
     port-past p h l = port-after-at p h ∙ simp (le-ltb p (t .count) l)
 
     -- a port below the count is what the sharing makes of its move
-    pub port-here : (p : ℕ) → p < places → p < t .count → portAt (tableAfter t moved supply) p ≡ settledAt t moved supply p .port
+    pub port-here : (p : ℕ) → p < mostPorts → p < t .count → portAt (tableAfter t moved supply) p ≡ settledAt t moved supply p .port
     unfolding portAfter
     port-here p h l = port-after-at p h ∙ simp (lt-ltb p (t .count) l)
 
-module _ (t : Table) (moved : ℕ → Moved) (few : t .count ≤ places) where
+module _ (t : Table) (moved : ℕ → Moved) (few : t .count ≤ mostPorts) where
   here : (s : Power) (p : ℕ) → p < t .count → portAt (tableAfter t moved s) p ≡ settledAt t moved s p .port
   here s p l = port-here t moved s p (omega arith) l
 
@@ -77,7 +78,7 @@ module _ (t : Table) (moved : ℕ → Moved) (few : t .count ≤ places) where
       let l : p < t .count = rw (count-after t moved s) at (ltb-true p (tableAfter t moved s .count) (and-left (ltb p (tableAfter t moved s .count)) _ e)) in
       let c : closed (portAt (tableAfter t moved s) p .state) ≡ true = and-right (ltb p (tableAfter t moved s .count)) _ e in
       let c′ = settled-mono (rankAt t moved p) (keptAt t moved s p) (keptAt t moved s′ p) (moved p)
-      (more-keeps places (rankAt t moved) (λ q. claimAt t moved q .0) (s .0) (s′ .0) p h) (rw (here s p l) at c) in
+      (more-keeps mostPorts (rankAt t moved) (λ q. claimAt t moved q .0) (s .0) (s′ .0) p h) (rw (here s p l) at c) in
       simp (count-after t moved s′, lt-ltb p (t .count) l, here s′ p l) c′
 
   module _ (opens : Opens t moved) where
@@ -86,7 +87,7 @@ module _ (t : Table) (moved : ℕ → Moved) (few : t .count ≤ places) where
     unclaimed p l e = no-claim-open (portAt t p .state) (moved p) (rw (rank-here t moved p l) at e) (opens p l)
 
     -- what a port draws after the tick is its claim, if that was kept, or nothing
-    place : (s : Power) (p : ℕ) → p < t .count → draws (portAt (tableAfter t moved s) p) ≤ cond (keeps places (rankAt t moved) (λ q. claimAt t moved q .0) (s .0) p) (claimAt t moved p .0) 0
+    place : (s : Power) (p : ℕ) → p < t .count → draws (portAt (tableAfter t moved s) p) ≤ cond (keeps mostPorts (rankAt t moved) (λ q. claimAt t moved q .0) (s .0) p) (claimAt t moved p .0) 0
     unfolding keptAt claimAt settledAt
     place s p l =
         rw (here s p l)
@@ -97,16 +98,16 @@ module _ (t : Table) (moved : ℕ → Moved) (few : t .count ≤ places) where
     unfolding closedSum sumWhere keptSum tableAfter
     closed-fits s =
         let demand : ℕ → ℕ = λ q. claimAt t moved q .0 in
-        let g : ℕ → ℕ = λ p. cond (keeps places (rankAt t moved) demand (s .0) p) (demand p) 0 in
+        let g : ℕ → ℕ = λ p. cond (keeps mostPorts (rankAt t moved) demand (s .0) p) (demand p) 0 in
         le-trans (total-mono (t .count) (λ p. draws (portAt (tableAfter t moved s) p)) g (place s))
-        (le-trans (total-fewer (t .count) places g few) (kept-sum-fits places (rankAt t moved) demand (s .0)))
+        (le-trans (total-fewer (t .count) mostPorts g few) (kept-sum-fits mostPorts (rankAt t moved) demand (s .0)))
 
 -- what a journal asks of a board's move: it tells what it latched
 abbrev pub Tells : Table → (ℕ → Moved) → Type 0
 Tells t moved = (p : ℕ) → p < t .count → moved p .port .latches ≡ join (portAt t p .latches) (moved p .latched)
 
 -- then a port's latches after the tick are those that it had and those that were latched in it
-pub latches-after : (t : Table) (moved : ℕ → Moved) (supply : Power) → t .count ≤ places → Tells t moved → (p : ℕ) → p < t .count
+pub latches-after : (t : Table) (moved : ℕ → Moved) (supply : Power) → t .count ≤ mostPorts → Tells t moved → (p : ℕ) → p < t .count
     → portAt (tableAfter t moved supply) p .latches ≡ join (portAt t p .latches) (latchedAt t moved supply p)
 unfolding settledAt latchedAt
 latches-after t moved supply few tells p l =

@@ -2,12 +2,13 @@
 use Prim.Native.Nat.{ℕ, _+_}
 use mathlib.Core.Bool.{Bool, true, false, _&&_}
 use lib.Count.{ones}
+use Rattle.sizes.specs.Sizes.{mostPorts}
 use Rattle.lists.specs.Count.{mask}
 use Rattle.control.specs.Control.{pairOf}
 use Rattle.control.specs.declared.Pair.{Pair}
 use Rattle.control.specs.declared.Pair.the-variants.{Neither, A, B, Both}
 use Rattle.table.specs.Drawn.{closedAt}
-use Rattle.table.specs.Form.{places, portAt}
+use Rattle.table.specs.Form.{portAt}
 use Rattle.table.specs.declared.form.Closed.the-variants.{Ports}
 use Rattle.table.specs.declared.form.Table.{Table}
 use Rattle.table.specs.declared.form.Ticked.{Ticked}
@@ -26,10 +27,10 @@ namesB Both = false
 
 -- "a 64-bit mask for each alternative, bit p set exactly if port p is closed and its control word names that alternative"
 unfoldable pub maskA : Table → ℕ
-maskA t = mask places (λ p. closedAt t p && namesA (pairOf (portAt t p .control)))
+maskA t = mask mostPorts (λ p. closedAt t p && namesA (pairOf (portAt t p .control)))
 
 unfoldable pub maskB : Table → ℕ
-maskB t = mask places (λ p. closedAt t p && namesB (pairOf (portAt t p .control)))
+maskB t = mask mostPorts (λ p. closedAt t p && namesB (pairOf (portAt t p .control)))
 
 -- "and a number of closed ports equal to the ones in the two masks"
 unfoldable pub answered : Table → Ticked

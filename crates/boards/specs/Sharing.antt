@@ -3,6 +3,7 @@
 use Prim.Native.Nat.{ℕ}
 use mathlib.Core.Bool.{Bool, cond}
 use lib.Dec.{ltb}
+use Rattle.sizes.specs.Sizes.{mostPorts}
 use Rattle.lists.specs.Places.{tabulate}
 use Rattle.power.specs.Power.{zeroPower}
 use Rattle.power.specs.declared.Power.{Power}
@@ -12,7 +13,7 @@ use Rattle.port.specs.declared.form.Moved.{Moved}
 use Rattle.port.specs.declared.form.Port.{Port}
 use Rattle.settling.specs.Settle.{rank, settled}
 use Rattle.share.specs.Share.{noClaim, keeps}
-use Rattle.table.specs.Form.{places, portAt}
+use Rattle.table.specs.Form.{portAt}
 use Rattle.table.specs.declared.form.Table.{Table}
 
 -- a table, and the move of the port at each place below the count
@@ -28,7 +29,7 @@ module _ (t : Table) (moved : ℕ → Moved) where
   module _ (supply : Power) where
     -- is its claim kept
     unfoldable pub keptAt : ℕ → Bool
-    keptAt p = keeps places rankAt (λ q. claimAt q .0) (supply .0) p
+    keptAt p = keeps mostPorts rankAt (λ q. claimAt q .0) (supply .0) p
 
     -- what the sharing makes of the moved port
     unfoldable pub settledAt : ℕ → Moved
@@ -44,4 +45,4 @@ module _ (t : Table) (moved : ℕ → Moved) where
 
     -- the table after the tick: "The figure is then stored."
     unfoldable pub tableAfter : Table
-    tableAfter = record { ports = tabulate places portAfter; count = t .count; supply = supply }
+    tableAfter = record { ports = tabulate mostPorts portAfter; count = t .count; supply = supply }

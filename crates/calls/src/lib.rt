@@ -6,6 +6,8 @@ use class::budget;
 use port::form::State;
 use power::Power;
 use power::Sum;
+use sizes::CELLS;
+use sizes::PORTS_64;
 use status::Condition;
 use status::status_word;
 use table::form::Answer;
@@ -47,7 +49,7 @@ fn fill(cells: &mut [u16], count: u16)
     ensures { λ _. ⌜ now (cells .exit) ≡ cellsOf (coldTable count) ⌝ }
 {
     let mut k = 0;
-    while k < 728 {
+    while k < CELLS {
         cells[k] = cold_cell(count, k);
         k += 1;
     }
@@ -58,13 +60,13 @@ pub fn cold_start(cells: &mut [u16], ports: u64) -> Answer
     ensures { λ r. ⌜ r ≡ startOn (now (cells .entry)) ports .answer ⌝ }
     ensures { λ _. ⌜ now (cells .exit) ≡ cellsCold (startOn (now (cells .entry)) ports) (now (cells .entry)) ⌝ }
 {
-    if cells.len() != 728 {
+    if cells.len() != CELLS {
         return Answer::Refused(13);
     }
     if ports < 1 {
         return Answer::Refused(2);
     }
-    if 48 < ports {
+    if PORTS_64 < ports {
         return Answer::Refused(2);
     }
     fill(cells, ports as u16);

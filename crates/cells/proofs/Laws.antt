@@ -11,6 +11,7 @@ use lib.Dec.{leb, ltb}
 use lib.ListN.{length, getD, set, length-set}
 use lib.Seq.{ext-getD, getD-set-same, getD-set-other}
 use borrow.Author.Tests.{lt-ltb, le-ltb, le-leb, lt-leb, leb-true, ltb-true}
+use Rattle.sizes.specs.Sizes.{mostPorts}
 use Rattle.lists.proofs.Places.{side, length-tabulate, getD-tabulate}
 use Rattle.lists.proofs.Tests.{and-left, and-right}
 use Rattle.power.specs.Power.{tenths}
@@ -29,11 +30,11 @@ use Rattle.cells.specs.Laws.{Holds}
 record OfPort (n k : ℕ) : Type 0 where
   field : ℕ
   place : ℕ
-  at : k ≡ 8 + 48 * field + place
+  at : k ≡ 8 + mostPorts * field + place
   one-of : field < 12
   below : place < n
 
-kind : (n k : ℕ) → n ≤ 48 → OfPort n k ⊎ (isOfPort n k ≡ false)
+kind : (n k : ℕ) → n ≤ mostPorts → OfPort n k ⊎ (isOfPort n k ≡ false)
 unfolding isOfPort
 kind n k few =
     ⊎-elim
@@ -41,9 +42,9 @@ kind n k few =
     ⊎-elim
     (λ (b : k < 584).
     ⊎-elim
-    (λ (c : (k - 8) % 48 < n). inl (record { field = (k - 8) / 48; place = (k - 8) % 48; at = omega arith; one-of = omega arith; below = c }))
-    (λ (c : n ≤ (k - 8) % 48). inr (simp (le-ltb ((k - 8) % 48) n c, and-false)))
-    (side ((k - 8) % 48) n))
+    (λ (c : (k - 8) % mostPorts < n). inl (record { field = (k - 8) / mostPorts; place = (k - 8) % mostPorts; at = omega arith; one-of = omega arith; below = c }))
+    (λ (c : n ≤ (k - 8) % mostPorts). inr (simp (le-ltb ((k - 8) % mostPorts) n c, and-false)))
+    (side ((k - 8) % mostPorts) n))
     (λ (b : 584 ≤ k). inr (simp (le-ltb k 584 b, and-false)))
     (side k 584))
     (λ (a : k < 8). inr (simp (lt-leb 8 k a)))
@@ -51,7 +52,7 @@ kind n k few =
 
 module _ (n : ℕ) (f : ℕ → Port) (l : List ℕ) where
   abbrev cell : ℕ → ℕ
-  cell k = cond (isOfPort n k) (getD (fieldsOf (f ((k - 8) % 48))) ((k - 8) / 48) 0) (getD l k 0)
+  cell k = cond (isOfPort n k) (getD (fieldsOf (f ((k - 8) % mostPorts))) ((k - 8) / mostPorts) 0) (getD l k 0)
 
   pub written-long : length (written n f l) ≡ length l
   unfolding written
@@ -70,27 +71,27 @@ module _ (n : ℕ) (f : ℕ → Port) (l : List ℕ) where
   unfolding isOfPort
   written-head k h b = written-else k b (simp (lt-leb 8 k h))
 
-  module _ (few : n ≤ 48) (long : 584 ≤ length l) where
-    pub written-field : (p g : ℕ) → p < n → g < 12 → getD (written n f l) (8 + 48 * g + p) 0 ≡ getD (fieldsOf (f p)) g 0
+  module _ (few : n ≤ mostPorts) (long : 584 ≤ length l) where
+    pub written-field : (p g : ℕ) → p < n → g < 12 → getD (written n f l) (8 + mostPorts * g + p) 0 ≡ getD (fieldsOf (f p)) g 0
     unfolding isOfPort
     written-field p g hp hg =
-        let m : (8 + 48 * g + p - 8) % 48 ≡ p = omega arith in
-        let d : (8 + 48 * g + p - 8) / 48 ≡ g = omega arith in
-        written-cell (8 + 48 * g + p) (omega arith)
-        ∙ simp (le-leb 8 (8 + 48 * g + p) (omega arith), lt-ltb (8 + 48 * g + p) 584 (omega arith), m, d, lt-ltb p n hp)
+        let m : (8 + mostPorts * g + p - 8) % mostPorts ≡ p = omega arith in
+        let d : (8 + mostPorts * g + p - 8) / mostPorts ≡ g = omega arith in
+        written-cell (8 + mostPorts * g + p) (omega arith)
+        ∙ simp (le-leb 8 (8 + mostPorts * g + p) (omega arith), lt-ltb (8 + mostPorts * g + p) 584 (omega arith), m, d, lt-ltb p n hp)
 
     -- a place past them is as it was
-    pub written-past : (p g : ℕ) → n ≤ p → p < 48 → g < 12 → getD (written n f l) (8 + 48 * g + p) 0 ≡ getD l (8 + 48 * g + p) 0
+    pub written-past : (p g : ℕ) → n ≤ p → p < mostPorts → g < 12 → getD (written n f l) (8 + mostPorts * g + p) 0 ≡ getD l (8 + mostPorts * g + p) 0
     unfolding isOfPort
     written-past p g hp h hg =
-        let m : (8 + 48 * g + p - 8) % 48 ≡ p = omega arith in
-        written-else (8 + 48 * g + p) (omega arith) (simp (m, le-ltb p n hp, and-false))
+        let m : (8 + mostPorts * g + p - 8) % mostPorts ≡ p = omega arith in
+        written-else (8 + mostPorts * g + p) (omega arith) (simp (m, le-ltb p n hp, and-false))
 
     -- the cells decode to the ports that were written
     pub port-written : (p : ℕ) → p < n → portOf (written n f l) p ≡ f p
     unfolding portOf countsOf
     port-written p hp =
-        let at : (g : ℕ) → g < 12 → getD (written n f l) (8 + 48 * g + p) 0 ≡ getD (fieldsOf (f p)) g 0 = λ g hg. written-field p g hp hg in
+        let at : (g : ℕ) → g < 12 → getD (written n f l) (8 + mostPorts * g + p) 0 ≡ getD (fieldsOf (f p)) g 0 = λ g hg. written-field p g hp hg in
         λ k.
         record {
           state = (ap stateOf (at 0 (omega arith)) ∙ state-back (f p .state)) k;
@@ -110,10 +111,10 @@ module _ (n : ℕ) (f : ℕ → Port) (l : List ℕ) where
               };
         }
 
-    pub port-past : (p : ℕ) → n ≤ p → p < 48 → portOf (written n f l) p ≡ portOf l p
+    pub port-past : (p : ℕ) → n ≤ p → p < mostPorts → portOf (written n f l) p ≡ portOf l p
     unfolding portOf countsOf
     port-past p hp h =
-        let at : (g : ℕ) → g < 12 → getD (written n f l) (8 + 48 * g + p) 0 ≡ getD l (8 + 48 * g + p) 0 = λ g hg. written-past p g hp h hg in
+        let at : (g : ℕ) → g < 12 → getD (written n f l) (8 + mostPorts * g + p) 0 ≡ getD l (8 + mostPorts * g + p) 0 = λ g hg. written-past p g hp h hg in
         λ k.
         record {
           state = ap stateOf (at 0 (omega arith)) k;
@@ -134,8 +135,8 @@ module _ (n : ℕ) (f : ℕ → Port) (l : List ℕ) where
         }
 
 -- a list of cells is the written one if each of its cells is
-pub is-written : (n : ℕ) (f : ℕ → Port) (l m : List ℕ) → n ≤ 48 → 584 ≤ length l → length m ≡ length l
-    → ((p g : ℕ) → p < n → g < 12 → getD m (8 + 48 * g + p) 0 ≡ getD (fieldsOf (f p)) g 0)
+pub is-written : (n : ℕ) (f : ℕ → Port) (l m : List ℕ) → n ≤ mostPorts → 584 ≤ length l → length m ≡ length l
+    → ((p g : ℕ) → p < n → g < 12 → getD m (8 + mostPorts * g + p) 0 ≡ getD (fieldsOf (f p)) g 0)
     → ((k : ℕ) → k < length l → isOfPort n k ≡ false → getD m k 0 ≡ getD l k 0)
     → m ≡ written n f l
 is-written n f l m few long same ours others =
@@ -158,7 +159,7 @@ unfolding portHolds
 holds-latches l p e = ltb-true (getD l (200 + p) 0) 64 (and-right (leb (getD l (8 + p) 0) 9) (ltb (getD l (200 + p) 0) 64) e)
 
 -- a field of the port that the cells are is its cell
-pub field-of : (l : List ℕ) (p : ℕ) → portHolds l p ≡ true → (g : ℕ) → g < 12 → getD (fieldsOf (portOf l p)) g 0 ≡ getD l (8 + 48 * g + p) 0
+pub field-of : (l : List ℕ) (p : ℕ) → portHolds l p ≡ true → (g : ℕ) → g < 12 → getD (fieldsOf (portOf l p)) g 0 ≡ getD l (8 + mostPorts * g + p) 0
 unfolding portOf countsOf
 field-of l p e zero h = code-again (getD l (8 + p) 0) (holds-state l p e)
 field-of l p e (suc zero) h = refl
@@ -174,10 +175,10 @@ field-of l p e (suc (suc (suc (suc (suc (suc (suc (suc (suc (suc zero)))))))))) 
 field-of l p e (suc (suc (suc (suc (suc (suc (suc (suc (suc (suc (suc zero))))))))))) h = refl
 field-of l p e (suc (suc (suc (suc (suc (suc (suc (suc (suc (suc (suc (suc g)))))))))))) h = absurd (omega arith)
 
-pub written-self : (n : ℕ) (l : List ℕ) → n ≤ 48 → 584 ≤ length l → Holds n l → l ≡ written n (portOf l) l
+pub written-self : (n : ℕ) (l : List ℕ) → n ≤ mostPorts → 584 ≤ length l → Holds n l → l ≡ written n (portOf l) l
 written-self n l few long holds = is-written n (portOf l) l l few long refl (λ p g hp hg. sym (field-of l p (holds p hp) g hg)) (λ k h e. refl)
 
-module _ (n : ℕ) (f g : ℕ → Port) (l : List ℕ) (few : n ≤ 48) (long : 584 ≤ length l) where
+module _ (n : ℕ) (f g : ℕ → Port) (l : List ℕ) (few : n ≤ mostPorts) (long : 584 ≤ length l) where
   -- ---- written again
 
   pub written-cong : ((p : ℕ) → p < n → f p ≡ g p) → written n f l ≡ written n g l
@@ -194,14 +195,14 @@ module _ (n : ℕ) (f g : ℕ → Port) (l : List ℕ) (few : n ≤ 48) (long : 
       (λ k h e. written-else n g (written n f l) k (omega (arith, written-long n f l)) e ∙ written-else n f l k h e)
 
 -- a cell of a port is not none of a port
-not-a-port : (n k p j : ℕ) → n ≤ 48 → p < n → k ≡ 8 + 48 * j + p → j < 12 → isOfPort n k ≡ false → ⊥
+not-a-port : (n k p j : ℕ) → n ≤ mostPorts → p < n → k ≡ 8 + mostPorts * j + p → j < 12 → isOfPort n k ≡ false → ⊥
 unfolding isOfPort
 not-a-port n k p j few hp a hj z =
-    let m : (k - 8) % 48 < n = omega arith in
-    false≢true (sym z ∙ simp (le-leb 8 k (omega arith), lt-ltb k 584 (omega arith), lt-ltb ((k - 8) % 48) n m))
+    let m : (k - 8) % mostPorts < n = omega arith in
+    false≢true (sym z ∙ simp (le-leb 8 k (omega arith), lt-ltb k 584 (omega arith), lt-ltb ((k - 8) % mostPorts) n m))
 
 -- some fields of one port, written one after the other
-pub writes-written : (n : ℕ) (f f′ : ℕ → Port) (l : List ℕ) (vs : List ℕ) (b p : ℕ) → n ≤ 48 → 584 ≤ length l → p < n → b + length vs ≤ 12
+pub writes-written : (n : ℕ) (f f′ : ℕ → Port) (l : List ℕ) (vs : List ℕ) (b p : ℕ) → n ≤ mostPorts → 584 ≤ length l → p < n → b + length vs ≤ 12
     → ((g : ℕ) → g < 12 → (g < b) ⊎ (b + length vs ≤ g) → getD (fieldsOf (f′ p)) g 0 ≡ getD (fieldsOf (f p)) g 0)
     → ((j : ℕ) → j < length vs → getD (fieldsOf (f′ p)) (b + j) 0 ≡ getD vs j 0)
     → ((q : ℕ) → q < n → (q ≡ p → ⊥) → f′ q ≡ f q)
@@ -213,13 +214,13 @@ writes-written n f f′ l vs b p few long hp fits out in′ rest =
     then = writes vs b p (written n f l)
 
     -- a field of p that is not written
-    left : (g : ℕ) → g < 12 → (g < b) ⊎ (b + length vs ≤ g) → getD then (8 + 48 * g + p) 0 ≡ getD (fieldsOf (f′ p)) g 0
+    left : (g : ℕ) → g < 12 → (g < b) ⊎ (b + length vs ≤ g) → getD then (8 + mostPorts * g + p) 0 ≡ getD (fieldsOf (f′ p)) g 0
     left g hg s =
-        writes-other vs b p (written n f l) (8 + 48 * g + p) (λ j e m o. ⊎-elim (λ (x : g < b). omega arith) (λ (x : b + length vs ≤ g). omega arith) s)
+        writes-other vs b p (written n f l) (8 + mostPorts * g + p) (λ j e m o. ⊎-elim (λ (x : g < b). omega arith) (λ (x : b + length vs ≤ g). omega arith) s)
         ∙ written-field n f l few long p g hp hg
         ∙ sym (out g hg s)
 
-    mine : (g : ℕ) → g < 12 → getD then (8 + 48 * g + p) 0 ≡ getD (fieldsOf (f′ p)) g 0
+    mine : (g : ℕ) → g < 12 → getD then (8 + mostPorts * g + p) 0 ≡ getD (fieldsOf (f′ p)) g 0
     mine g hg =
         ⊎-elim
         (λ (x : g < b). left g hg (inl x))
@@ -227,7 +228,7 @@ writes-written n f f′ l vs b p few long hp fits out in′ rest =
         ⊎-elim
         (λ (y : g < b + length vs).
         let e : b + (g - b) ≡ g = omega arith in
-        ap (λ (j : ℕ). getD then (8 + 48 * j + p) 0) (sym e)
+        ap (λ (j : ℕ). getD then (8 + mostPorts * j + p) 0) (sym e)
         ∙ writes-at vs b p (written n f l) (g - b) (omega arith) (omega (arith, written-long n f l))
         ∙ sym (in′ (g - b) (omega arith))
         ∙ ap (λ (j : ℕ). getD (fieldsOf (f′ p)) j 0) e)
@@ -235,20 +236,20 @@ writes-written n f f′ l vs b p few long hp fits out in′ rest =
         (side g (b + length vs)))
         (side g b)
 
-    ours : (q g : ℕ) → q < n → g < 12 → getD then (8 + 48 * g + q) 0 ≡ getD (fieldsOf (f′ q)) g 0
+    ours : (q g : ℕ) → q < n → g < 12 → getD then (8 + mostPorts * g + q) 0 ≡ getD (fieldsOf (f′ q)) g 0
     ours q g hq hg =
         ⊎-elim
         (λ (x : q < p). theirs (λ e. omega arith))
         (λ (x : p ≤ q).
         ⊎-elim
-        (λ (e : p ≡ q). subst (λ (x : ℕ). getD then (8 + 48 * g + x) 0 ≡ getD (fieldsOf (f′ x)) g 0) e (mine g hg))
+        (λ (e : p ≡ q). subst (λ (x : ℕ). getD then (8 + mostPorts * g + x) 0 ≡ getD (fieldsOf (f′ x)) g 0) e (mine g hg))
         (λ (y : p < q). theirs (λ e. omega arith))
         (eq-or-lt-of-le {n = p} {m = q} x))
         (side q p)
       where
-        theirs : (q ≡ p → ⊥) → getD then (8 + 48 * g + q) 0 ≡ getD (fieldsOf (f′ q)) g 0
+        theirs : (q ≡ p → ⊥) → getD then (8 + mostPorts * g + q) 0 ≡ getD (fieldsOf (f′ q)) g 0
         theirs apart =
-            writes-other vs b p (written n f l) (8 + 48 * g + q) (λ j e m o. apart (omega arith))
+            writes-other vs b p (written n f l) (8 + mostPorts * g + q) (λ j e m o. apart (omega arith))
             ∙ written-field n f l few long q g hq hg
             ∙ ap (λ (x : Port). getD (fieldsOf x) g 0) (sym (rest q hq apart))
 
@@ -258,12 +259,12 @@ writes-written n f f′ l vs b p few long hp fits out in′ rest =
         ∙ written-else n f l k h e
 
 -- a cell of the head, set before or after
-pub written-set : (n : ℕ) (f : ℕ → Port) (l : List ℕ) (k v : ℕ) → n ≤ 48 → 584 ≤ length l → k < 8 → set (written n f l) k v ≡ written n f (set l k v)
+pub written-set : (n : ℕ) (f : ℕ → Port) (l : List ℕ) (k v : ℕ) → n ≤ mostPorts → 584 ≤ length l → k < 8 → set (written n f l) k v ≡ written n f (set l k v)
 written-set n f l k v few long hk =
     let same = length-set l k v in
     is-written n f (set l k v) (set (written n f l) k v) few (omega (arith, same))
     (length-set (written n f l) k v ∙ written-long n f l ∙ sym same)
-    (λ p g hp hg. getD-set-other (written n f l) k (8 + 48 * g + p) v 0 (λ e. omega arith) ∙ written-field n f l few long p g hp hg)
+    (λ p g hp hg. getD-set-other (written n f l) k (8 + mostPorts * g + p) v 0 (λ e. omega arith) ∙ written-field n f l few long p g hp hg)
     (λ j h e.
     ⊎-elim
     (λ (x : j < k). getD-set-other (written n f l) k j v 0 (λ q. omega arith) ∙ written-else n f l j (omega (arith, same)) e ∙ sym (getD-set-other l k j v 0 (λ q. omega arith)))
@@ -275,6 +276,6 @@ written-set n f l k v few long hk =
     (side j k))
 
 -- the ports of the table that cells are
-pub table-at : (l : List ℕ) (q : ℕ) → q < 48 → portAt (tableOf l) q ≡ portOf l q
+pub table-at : (l : List ℕ) (q : ℕ) → q < mostPorts → portAt (tableOf l) q ≡ portOf l q
 unfolding portAt tableOf
-table-at l q h = getD-tabulate 48 (portOf l) noPort q h
+table-at l q h = getD-tabulate mostPorts (portOf l) noPort q h

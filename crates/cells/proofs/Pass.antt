@@ -11,6 +11,7 @@ use native.Mathlib.Omega.{arith}
 use lib.Dec.{ltb}
 use lib.ListN.{length, getD}
 use borrow.Author.Tests.{lt-ltb, le-ltb}
+use Rattle.sizes.specs.Sizes.{mostPorts}
 use Rattle.lists.proofs.Places.{side}
 use Rattle.port.specs.Form.{withCounts}
 use Rattle.port.specs.declared.form.Counts.{Counts}
@@ -52,7 +53,7 @@ before-counts c x (suc (suc (suc (suc (suc j))))) h = absurd (omega arith)
 count-fields : (c : Counts) (x : Port) (j : ℕ) → getD (fieldsOf (withCounts c x)) (5 + j) 0 ≡ getD (countFields c) j 0
 count-fields c x j = rw (add-comm 5 j) (simp unary-clauses)
 
-module _ (n : ℕ) (g h : ℕ → Port) (l : List ℕ) (few : n ≤ 48) (long : 584 ≤ length l) where
+module _ (n : ℕ) (g h : ℕ → Port) (l : List ℕ) (few : n ≤ mostPorts) (long : 584 ≤ length l) where
   pub pass-none : l ≡ written n h l → l ≡ written n (stage 0 g h) l
   pass-none e = e ∙ written-cong n h (stage 0 g h) l few long (λ p hp. sym (stage-left 0 g h p (omega arith)))
 
@@ -64,9 +65,9 @@ module _ (n : ℕ) (g h : ℕ → Port) (l : List ℕ) (few : n ≤ 48) (long : 
     pub pass-port : portOf m i ≡ h i
     pass-port = ap (λ (x : List ℕ). portOf x i) e ∙ port-written n (stage i g h) l few long i hi ∙ stage-left i g h i (le-refl i)
 
-    pub pass-field : (j : ℕ) → j < 12 → getD m (8 + 48 * j + i) 0 ≡ getD (fieldsOf (h i)) j 0
+    pub pass-field : (j : ℕ) → j < 12 → getD m (8 + mostPorts * j + i) 0 ≡ getD (fieldsOf (h i)) j 0
     pass-field j hj =
-        ap (λ (x : List ℕ). getD x (8 + 48 * j + i) 0) e
+        ap (λ (x : List ℕ). getD x (8 + mostPorts * j + i) 0) e
         ∙ written-field n (stage i g h) l few long i j hi hj
         ∙ ap (λ (x : Port). getD (fieldsOf x) j 0) (stage-left i g h i (le-refl i))
 

@@ -11,6 +11,7 @@ use lib.Dec.{eqb}
 use lib.ListN.{length, getD, set, replicate, length-set, length-replicate}
 use lib.Seq.{getD-set-same, getD-set-other}
 use borrow.Author.Tests.{eq-eqb, eqb-true, lt-ltb, le-leb}
+use Rattle.sizes.specs.Sizes.{mostPorts}
 use Rattle.lists.specs.Every.{every}
 use Rattle.lists.proofs.Every.{every-of}
 use Rattle.lists.proofs.Places.{side, tabulated}
@@ -25,7 +26,7 @@ use Rattle.cells.specs.Codes.{stateOf, latchesOf}
 use Rattle.cells.proofs.Laws.{written-long, written-head, written-field, port-written, port-past, table-at}
 
 -- a port that was written has a state and latches that there are
-pub holds-written : (n : ℕ) (f : ℕ → Port) (l : List ℕ) → n ≤ 48 → 584 ≤ length l → (p : ℕ) → p < n → portHolds (written n f l) p ≡ true
+pub holds-written : (n : ℕ) (f : ℕ → Port) (l : List ℕ) → n ≤ mostPorts → 584 ≤ length l → (p : ℕ) → p < n → portHolds (written n f l) p ≡ true
 unfolding portHolds
 holds-written n f l few long p h =
     let a = written-field n f l few long p 0 h (omega arith) in
@@ -53,45 +54,45 @@ module _ (t : Table) where
 
   pub cells-long : length (cellsOf t) ≡ 728
   unfolding cellsOf
-  cells-long = written-long 48 (portAt t) base ∙ base-long
+  cells-long = written-long mostPorts (portAt t) base ∙ base-long
 
   pub cells-count : countCell (cellsOf t) ≡ t .count
   unfolding cellsOf
   cells-count =
-      written-head 48 (portAt t) base 0 (omega arith) (omega (arith, base-long))
+      written-head mostPorts (portAt t) base 0 (omega arith) (omega (arith, base-long))
       ∙ getD-set-other bare 1 0 (t .supply .0) 0 (λ e. omega arith)
       ∙ getD-set-same (replicate cellsLong 0) 0 (t .count) 0 (omega (arith, length-replicate {A = ℕ} 728 0))
 
   pub cells-supply : supplyCell (cellsOf t) ≡ t .supply .0
   unfolding cellsOf
   cells-supply =
-      written-head 48 (portAt t) base 1 (omega arith) (omega (arith, base-long))
+      written-head mostPorts (portAt t) base 1 (omega arith) (omega (arith, base-long))
       ∙ getD-set-same bare 1 (t .supply .0) 0 (omega (arith, bare-long))
 
-  pub cells-port : (p : ℕ) → p < 48 → portOf (cellsOf t) p ≡ portAt t p
+  pub cells-port : (p : ℕ) → p < mostPorts → portOf (cellsOf t) p ≡ portAt t p
   unfolding cellsOf
-  cells-port p h = port-written 48 (portAt t) base (le-refl 48) (omega (arith, base-long)) p h
+  cells-port p h = port-written mostPorts (portAt t) base (le-refl mostPorts) (omega (arith, base-long)) p h
 
-  pub cells-holds : (p : ℕ) → p < 48 → portHolds (cellsOf t) p ≡ true
+  pub cells-holds : (p : ℕ) → p < mostPorts → portHolds (cellsOf t) p ≡ true
   unfolding cellsOf
-  cells-holds p h = holds-written 48 (portAt t) base (le-refl 48) (omega (arith, base-long)) p h
+  cells-holds p h = holds-written mostPorts (portAt t) base (le-refl mostPorts) (omega (arith, base-long)) p h
 
   -- the cells of a table are that table
-  pub cells-table : length (t .ports) ≡ 48 → tableOf (cellsOf t) ≡ t
+  pub cells-table : length (t .ports) ≡ mostPorts → tableOf (cellsOf t) ≡ t
   unfolding tableOf portAt
   cells-table long =
-      let ports = tabulated 48 (portOf (cellsOf t)) noPort (t .ports) long (λ p h. sym (cells-port p h)) in
+      let ports = tabulated mostPorts (portOf (cellsOf t)) noPort (t .ports) long (λ p h. sym (cells-port p h)) in
       λ k. record { ports = sym ports k; count = cells-count k; supply = ap tenths cells-supply k }
 
-  pub cells-are : t .count ≤ 48 → isTable (cellsOf t) ≡ true
+  pub cells-are : t .count ≤ mostPorts → isTable (cellsOf t) ≡ true
   unfolding isTable
   cells-are few =
       simp (eq-eqb _ _ cells-long, every-of (countCell (cellsOf t)) (portHolds (cellsOf t)) (λ p h. cells-holds p (omega (arith, cells-count))))
 
 -- ---- cells that were a table of as many ports
 
-module _ (t : Table) (l : List ℕ) (was : isTable l ≡ true) (ports : length (t .ports) ≡ 48) (same : t .count ≡ countCell l) (few : t .count ≤ 48)
-    (past : (p : ℕ) → t .count ≤ p → p < 48 → portAt t p ≡ portAt (tableOf l) p) where
+module _ (t : Table) (l : List ℕ) (was : isTable l ≡ true) (ports : length (t .ports) ≡ mostPorts) (same : t .count ≡ countCell l) (few : t .count ≤ mostPorts)
+    (past : (p : ℕ) → t .count ≤ p → p < mostPorts → portAt t p ≡ portAt (tableOf l) p) where
   abbrev under : List ℕ
   under = set l 1 (t .supply .0)
 
@@ -115,8 +116,8 @@ module _ (t : Table) (l : List ℕ) (was : isTable l ≡ true) (ports : length (
       written-head (t .count) (portAt t) under 1 (omega arith) (omega (arith, under-long))
       ∙ getD-set-same l 1 (t .supply .0) 0 (omega (arith, table-long l was))
 
-  under-field : (g p : ℕ) → getD under (8 + 48 * g + p) 0 ≡ getD l (8 + 48 * g + p) 0
-  under-field g p = getD-set-other l 1 (8 + 48 * g + p) (t .supply .0) 0 (λ e. omega arith)
+  under-field : (g p : ℕ) → getD under (8 + mostPorts * g + p) 0 ≡ getD l (8 + mostPorts * g + p) 0
+  under-field g p = getD-set-other l 1 (8 + mostPorts * g + p) (t .supply .0) 0 (λ e. omega arith)
 
   under-port : (p : ℕ) → portOf under p ≡ portOf l p
   unfolding portOf countsOf
@@ -140,7 +141,7 @@ module _ (t : Table) (l : List ℕ) (was : isTable l ≡ true) (ports : length (
             };
       }
 
-  pub with-port : (p : ℕ) → p < 48 → portOf (cellsWith t l) p ≡ portAt t p
+  pub with-port : (p : ℕ) → p < mostPorts → portOf (cellsWith t l) p ≡ portAt t p
   unfolding cellsWith
   with-port p h =
       ⊎-elim
@@ -155,7 +156,7 @@ module _ (t : Table) (l : List ℕ) (was : isTable l ≡ true) (ports : length (
   pub with-table : tableOf (cellsWith t l) ≡ t
   unfolding tableOf portAt
   with-table =
-      let all = tabulated 48 (portOf (cellsWith t l)) noPort (t .ports) ports (λ p h. sym (with-port p h)) in
+      let all = tabulated mostPorts (portOf (cellsWith t l)) noPort (t .ports) ports (λ p h. sym (with-port p h)) in
       λ k. record { ports = sym all k; count = with-count k; supply = ap tenths with-supply k }
 
   pub with-holds : (p : ℕ) → p < t .count → portHolds (cellsWith t l) p ≡ true

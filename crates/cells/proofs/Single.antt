@@ -7,6 +7,7 @@ use Prim.Native.Nat.{ℕ, _+_, _*_, _≤_, _<_}
 use native.Mathlib.Omega.{arith}
 use lib.ListN.{length, getD, set}
 use lib.Seq.{getD-set-same, getD-set-other, set-getD}
+use Rattle.sizes.specs.Sizes.{mostPorts}
 use Rattle.lists.specs.Places.{tabulate}
 use Rattle.lists.proofs.Places.{length-tabulate}
 use Rattle.port.specs.declared.form.Port.{Port}
@@ -17,25 +18,25 @@ use Rattle.cells.proofs.Laws.{written-self, writes-written, table-at}
 use Rattle.cells.specs.Writes.{writes}
 
 -- the places of the table that cells are, with another port at one
-pub with-port-same : (l : List ℕ) (p : ℕ) (x : Port) → p < 48 → portAt (withPort p x (tableOf l)) p ≡ x
+pub with-port-same : (l : List ℕ) (p : ℕ) (x : Port) → p < mostPorts → portAt (withPort p x (tableOf l)) p ≡ x
 unfolding portAt withPort tableOf
-with-port-same l p x h = getD-set-same (tabulate 48 (portOf l)) p x noPort (omega (arith, length-tabulate 48 (portOf l)))
+with-port-same l p x h = getD-set-same (tabulate mostPorts (portOf l)) p x noPort (omega (arith, length-tabulate mostPorts (portOf l)))
 
-pub with-port-other : (l : List ℕ) (p : ℕ) (x : Port) (q : ℕ) → (q ≡ p → ⊥) → q < 48 → portAt (withPort p x (tableOf l)) q ≡ portOf l q
+pub with-port-other : (l : List ℕ) (p : ℕ) (x : Port) (q : ℕ) → (q ≡ p → ⊥) → q < mostPorts → portAt (withPort p x (tableOf l)) q ≡ portOf l q
 unfolding portAt withPort tableOf
-with-port-other l p x q apart h = getD-set-other (tabulate 48 (portOf l)) p q x noPort apart ∙ table-at l q h
+with-port-other l p x q apart h = getD-set-other (tabulate mostPorts (portOf l)) p q x noPort apart ∙ table-at l q h
 
 -- the supply of the table that cells are is written as it was
 pub with-port-cells : (l : List ℕ) (p : ℕ) (x : Port) → cellsWith (withPort p x (tableOf l)) l ≡ written (countCell l) (portAt (withPort p x (tableOf l))) l
 unfolding cellsWith withPort tableOf
 with-port-cells l p x = ap (written (countCell l) (portAt (withPort p x (tableOf l)))) (set-getD l 1 0)
 
-module _ (l : List ℕ) (long : length l ≡ cellsLong) (few : countCell l ≤ 48) (holds : Holds (countCell l) l) where
+module _ (l : List ℕ) (long : length l ≡ cellsLong) (few : countCell l ≤ mostPorts) (holds : Holds (countCell l) l) where
   -- field g of the port at place p becomes v
-  pub single : (p g v : ℕ) (x : Port) → p < countCell l → g < 12 → fieldsOf x ≡ set (fieldsOf (portAt (tableOf l) p)) g v → set l (8 + 48 * g + p) v ≡ cellsWith (withPort p x (tableOf l)) l
+  pub single : (p g v : ℕ) (x : Port) → p < countCell l → g < 12 → fieldsOf x ≡ set (fieldsOf (portAt (tableOf l) p)) g v → set l (8 + mostPorts * g + p) v ≡ cellsWith (withPort p x (tableOf l)) l
   unfolding writes
   single p g v x hp hg is =
-      ap (λ (m : List ℕ). set m (8 + 48 * g + p) v) (written-self n l few (omega arith) holds)
+      ap (λ (m : List ℕ). set m (8 + mostPorts * g + p) v) (written-self n l few (omega arith) holds)
       ∙ writes-written n (portOf l) after l (v ∷ []) g p few (omega arith) hp (omega arith)
       (λ j hj s.
       mine j ∙ getD-set-other (fieldsOf (portAt (tableOf l) p)) g j v 0 (λ e. ⊎-elim (λ (a : j < g). omega arith) (λ (a : g + 1 ≤ j). omega arith) s)

@@ -4,6 +4,7 @@ use mathlib.Core.Bool.{Bool, cond, _&&_}
 use mathlib.Core.List.{List, [], _∷_}
 use lib.Dec.{eqb, leb, ltb}
 use lib.ListN.{length, getD, set, replicate}
+use Rattle.sizes.specs.Sizes.{mostPorts}
 use Rattle.lists.specs.Every.{every}
 use Rattle.lists.specs.Places.{tabulate}
 use Rattle.power.specs.Power.{tenths}
@@ -52,7 +53,7 @@ portOf l p =
 
 -- the table that the cells are
 unfoldable pub tableOf : List ℕ → Table
-tableOf l = record { ports = tabulate 48 (portOf l); count = countCell l; supply = tenths (supplyCell l) }
+tableOf l = record { ports = tabulate mostPorts (portOf l); count = countCell l; supply = tenths (supplyCell l) }
 
 -- a state up to 9, and no latch bit over 5 set
 unfoldable pub portHolds : List ℕ → ℕ → Bool
@@ -71,11 +72,11 @@ fieldsOf port =
 
 -- cell k is one of a port's twelve, and the port's place is below n
 unfoldable pub isOfPort : ℕ → ℕ → Bool
-isOfPort n k = leb 8 k && (ltb k 584 && ltb ((k - 8) % 48) n)
+isOfPort n k = leb 8 k && (ltb k 584 && ltb ((k - 8) % mostPorts) n)
 
 -- the cells with the ports f at the places below n, and all else as in l
 unfoldable pub written : ℕ → (ℕ → Port) → List ℕ → List ℕ
-written n f l = tabulate (length l) (λ k. cond (isOfPort n k) (getD (fieldsOf (f ((k - 8) % 48))) ((k - 8) / 48) 0) (getD l k 0))
+written n f l = tabulate (length l) (λ k. cond (isOfPort n k) (getD (fieldsOf (f ((k - 8) % mostPorts))) ((k - 8) / mostPorts) 0) (getD l k 0))
 
 -- the cells that a call leaves, where they were l and the table is then t: "Places at or past the port count .. never change"
 unfoldable pub cellsWith : Table → List ℕ → List ℕ
@@ -83,4 +84,4 @@ cellsWith t l = written (t .count) (portAt t) (set l 1 (t .supply .0))
 
 -- the cells of a table that nothing was before: all 48 places are the table's, and what is nobody's is 0
 unfoldable pub cellsOf : Table → List ℕ
-cellsOf t = written 48 (portAt t) (set (set (replicate cellsLong 0) 0 (t .count)) 1 (t .supply .0))
+cellsOf t = written mostPorts (portAt t) (set (set (replicate cellsLong 0) 0 (t .count)) 1 (t .supply .0))

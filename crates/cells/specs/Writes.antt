@@ -3,6 +3,7 @@
 use mathlib.Core.List.{List, [], _∷_}
 use Prim.Native.Nat.{ℕ, _+_, _*_}
 use lib.ListN.{set}
+use Rattle.sizes.specs.Sizes.{mostPorts}
 use Rattle.port.specs.declared.form.Counts.{Counts}
 use Rattle.port.specs.declared.form.Port.{Port}
 use Rattle.cells.specs.Cells.{fieldsOf}
@@ -10,7 +11,7 @@ use Rattle.cells.specs.Cells.{fieldsOf}
 -- the fields from f on of a place, written one after the other
 unfoldable pub writes : List ℕ → ℕ → ℕ → List ℕ → List ℕ
 writes [] f p l = l
-writes (v ∷ vs) f p l = writes vs (f + 1) p (set l (8 + 48 * f + p) v)
+writes (v ∷ vs) f p l = writes vs (f + 1) p (set l (8 + mostPorts * f + p) v)
 
 -- the cells with another port at a place
 unfoldable pub withPortCells : ℕ → Port → List ℕ → List ℕ

@@ -5,6 +5,7 @@ use mathlib.Core.Bool.{Bool, cond, not, _&&_}
 use mathlib.Core.List.{List}
 use lib.Dec.{ltb, leb, eqb}
 use lib.ListN.{length, getD, replicate}
+use Rattle.sizes.specs.Sizes.{mostPorts}
 use Rattle.lists.specs.Places.{tabulate}
 use Rattle.lists.specs.Total.{total}
 use Rattle.power.specs.Power.{zeroPower}
@@ -24,17 +25,17 @@ wants asks l p = cond (isSet asks) (portOf l p .demand .0) 0
 
 -- the rank of each claim; a place past the count has none
 unfoldable pub ranksOn : ℕ → List ℕ → List ℕ → List ℕ
-ranksOn n lane l = tabulate 48 (λ p. cond (ltb p n) (rankIn (portOf l p .state) (portOf l p .control) (isSet (getD lane p 0))) noClaim)
+ranksOn n lane l = tabulate mostPorts (λ p. cond (ltb p n) (rankIn (portOf l p .state) (portOf l p .control) (isSet (getD lane p 0))) noClaim)
 
 -- and its demand
 unfoldable pub demandsOn : ℕ → List ℕ → List Power
-demandsOn n l = tabulate 48 (λ p. cond (ltb p n) (portOf l p .demand) zeroPower)
+demandsOn n l = tabulate mostPorts (λ p. cond (ltb p n) (portOf l p .demand) zeroPower)
 
 -- ---- of any cells, count and lane
 
 -- as many cells as a table has, no more ports than places, and a number for each place
 unfoldable pub claimable : ℕ → List ℕ → List ℕ → Bool
-claimable n lane l = (eqb (length l) cellsLong && leb n 48) && eqb (length lane) 48
+claimable n lane l = (eqb (length l) cellsLong && leb n mostPorts) && eqb (length lane) mostPorts
 
 unfoldable pub wantedIn : ℕ → List ℕ → List ℕ → ℕ
 wantedIn n lane l = cond (claimable n lane l) (total n (λ p. wants (getD lane p 0) l p)) 0
@@ -42,4 +43,4 @@ wantedIn n lane l = cond (claimable n lane l) (total n (λ p. wants (getD lane p
 unfoldable pub claimsIn : ℕ → List ℕ → List ℕ → Claims
 claimsIn n lane l =
     cond (claimable n lane l) (record { ranks = ranksOn n lane l; demands = demandsOn n l })
-    (record { ranks = replicate 48 noClaim; demands = replicate 48 zeroPower })
+    (record { ranks = replicate mostPorts noClaim; demands = replicate mostPorts zeroPower })

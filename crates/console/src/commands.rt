@@ -13,6 +13,8 @@ use parts::front;
 use parts::number_of;
 use parts::numbers_of;
 use parts::word;
+use sizes::CELLS;
+use sizes::IMAGE;
 use text::end;
 use text::hex;
 use writer::Written;
@@ -83,12 +85,15 @@ fn bad_image(many: usize, out: &mut [u8], at: usize) -> Held {
 
 // An image is restored into as many cells as a table has, whatever was held before; the room has never fewer.
 fn loaded(image: &[u8], room: &mut [u16], many: usize, out: &mut [u8], at: usize) -> Held {
-    if room.len() < 728 {
+    if room.len() < CELLS {
         return bad_image(many, out, at);
     }
     if load::load(image, &mut room[..728]) {
         let to = text::line(out, at, b"ok");
-        return Held { many: 728, at: to };
+        return Held {
+            many: CELLS,
+            at: to,
+        };
     }
     bad_image(many, out, at)
 }
@@ -111,7 +116,7 @@ fn dump(line: &[u8], cells: &[u16], out: &mut [u8], at: usize) -> usize {
     if count(line) != 1 {
         return bad_line(out, at);
     }
-    let mut room = [0u8; 1_014];
+    let mut room = [0u8; IMAGE];
     if store::store(cells, &mut room) {
         let to = hex(out, at, &room);
         return end(out, to);

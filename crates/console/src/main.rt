@@ -6,6 +6,7 @@ mod lines;
 use commands::Held;
 use lines::Source;
 use parts::front;
+use sizes::CELLS;
 ghost use mathlib.Core.Path.{_≡_};
 ghost use lib.ListN.{length};
 
@@ -48,7 +49,7 @@ fn flushed(source: Source, out: &[u8], at: usize) -> usize {
 
 // Before the first cold start the table is 728 cells, all 0: it has no ports.
 fn run(input: &mut [u8], line: &mut [u8], data: &mut [u8], out: &mut [u8], room: &mut [u16]) {
-    let mut many: usize = 728;
+    let mut many: usize = CELLS;
     let mut source = Source { at: 0, end: 0 };
     let mut at: usize = 0;
     let mut left = MOST;

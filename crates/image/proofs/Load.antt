@@ -7,14 +7,16 @@ use mathlib.Core.List.{List}
 use lib.Dec.{eqb}
 use lib.ListN.{length}
 use borrow.Author.Tests.{eqb-true}
+use Rattle.sizes.specs.Sizes.{mostPorts}
+use Rattle.image.specs.Image.{imageLong, imagePort}
 use Rattle.lists.proofs.Every.{every-at}
 use Rattle.lists.proofs.Tests.{and-left, and-right}
 use Rattle.image.specs.Load.{wordAt, portReads, reads}
 
-pub reads-long : (bytes : List ℕ) → reads bytes ≡ true → length bytes ≡ 1014
+pub reads-long : (bytes : List ℕ) → reads bytes ≡ true → length bytes ≡ imageLong
 unfolding reads
-reads-long bytes e = eqb-true (length bytes) 1014 (and-left (eqb (length bytes) 1014) _ e)
+reads-long bytes e = eqb-true (length bytes) imageLong (and-left (eqb (length bytes) imageLong) _ e)
 
-pub reads-port : (bytes : List ℕ) → reads bytes ≡ true → (p : ℕ) → p < 48 → portReads bytes (6 + 21 * p) ≡ true
+pub reads-port : (bytes : List ℕ) → reads bytes ≡ true → (p : ℕ) → p < mostPorts → portReads bytes (6 + imagePort * p) ≡ true
 unfolding reads
-reads-port bytes e = every-at 48 (λ p. portReads bytes (6 + 21 * p)) (and-right (eqb (wordAt bytes 2) 0) _ (and-right (eqb (length bytes) 1014) _ e))
+reads-port bytes e = every-at mostPorts (λ p. portReads bytes (6 + imagePort * p)) (and-right (eqb (wordAt bytes 2) 0) _ (and-right (eqb (length bytes) imageLong) _ e))

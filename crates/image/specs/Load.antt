@@ -4,6 +4,8 @@ use mathlib.Core.Bool.{Bool, cond, _&&_}
 use mathlib.Core.List.{List}
 use lib.Dec.{leb, ltb, eqb}
 use lib.ListN.{length, getD}
+use Rattle.sizes.specs.Sizes.{mostPorts}
+use Rattle.image.specs.Image.{imageLong, imagePort}
 use Rattle.lists.specs.Every.{every}
 use Rattle.lists.specs.Places.{tabulate}
 use Rattle.power.specs.Power.{tenths}
@@ -42,7 +44,7 @@ portIn bytes at =
     }
 
 unfoldable pub tableIn : List ℕ → Table
-tableIn bytes = record { ports = tabulate 48 (λ p. portIn bytes (6 + 21 * p)); count = wordAt bytes 0; supply = tenths (wordAt bytes 4) }
+tableIn bytes = record { ports = tabulate mostPorts (λ p. portIn bytes (6 + imagePort * p)); count = wordAt bytes 0; supply = tenths (wordAt bytes 4) }
 
 -- no state over 9, and no latch bit over 5 set
 unfoldable pub portReads : List ℕ → ℕ → Bool
@@ -50,7 +52,7 @@ portReads bytes at = leb (getD bytes at 0) 9 && ltb (getD bytes (at + 6) 0) 64
 
 -- an image: 1,014 bytes, a supply that fits the table's type, and every port reads
 unfoldable pub reads : List ℕ → Bool
-reads bytes = eqb (length bytes) 1014 && (eqb (wordAt bytes 2) 0 && every 48 (λ p. portReads bytes (6 + 21 * p)))
+reads bytes = eqb (length bytes) imageLong && (eqb (wordAt bytes 2) 0 && every mostPorts (λ p. portReads bytes (6 + imagePort * p)))
 
 -- bytes are restored if they are an image and the cells are as many as a table's, whatever these hold
 unfoldable pub restores : List ℕ → List ℕ → Bool

@@ -10,6 +10,7 @@ use lib.ListN.{length, getD, set, length-set, length-replicate}
 use lib.Seq.{getD-set-other}
 use borrow.Author.Needs.{needs}
 use borrow.Author.Tests.{eqb-true, eq-eqb, leb-false, ltb-false}
+use Rattle.sizes.specs.Sizes.{mostPorts}
 use Rattle.lists.specs.Ladder.{ladder, Clear, Each}
 use Rattle.lists.proofs.Ladder.{ladder-each}
 use Rattle.lists.proofs.Places.{length-tabulate, getD-tabulate}
@@ -43,7 +44,7 @@ use Rattle.boards.specs.Masks.{answered}
 use Rattle.boards.specs.Sharing.{portAfter, tableAfter}
 use Rattle.passes.specs.OnCells.{tickOn}
 use Rattle.passes.specs.Tick.{movedAt, tickRefusals, tick}
-use Rattle.image.specs.Image.{imageOf, imageable, saves, roomAfter}
+use Rattle.image.specs.Image.{imageOf, imageable, saves, roomAfter, imageLong}
 use Rattle.image.proofs.Laws.{image-reads, table-ports, saved-restored, restored-saves, restored-saved}
 use Rattle.image.specs.Load.{portIn, tableIn, reads, restores, cellsRestored}
 use Rattle.reader.specs.Read.{readRefusals, readOf}
@@ -98,7 +99,7 @@ refusal-leaves =
       told = λ told l. told-leaves (told .answer) (told .table) l;
       read = λ told l. read-leaves (told .answer) (told .table) l;
       ticked = λ told l. ticked-leaves (told .answer) (told .table) l;
-      saved = λ l room. not-saved (imageable l) (eqb (length room) 1014) (imageOf (tableOf l)) room;
+      saved = λ l room. not-saved (imageable l) (eqb (length room) imageLong) (imageOf (tableOf l)) room;
       restored = λ bytes l. not-restored (restores bytes l) _ l;
     }
 
@@ -131,13 +132,13 @@ module _ {X : Type 0} (P : X → Type 0) (refuse : ℕ → X) (value : X) where
   ladder-fair (r ∷ rs) each goes =
       choice-on P (r .1) (refuse (r .0)) (ladder rs refuse value) (λ e. each .0) (λ e. ladder-fair rs (each .1) (λ c. goes (e, c)))
 
-few-ports : (t : Table) → illMade t ≡ false → t .count ≤ 48
+few-ports : (t : Table) → illMade t ≡ false → t .count ≤ mostPorts
 unfolding wellMade
 few-ports t e = well-count t (ap not e)
 
-pub cold-are : (n : ℕ) → n ≤ 48 → Are (coldTable n) (cellsCold (done (coldTable n)) [])
+pub cold-are : (n : ℕ) → n ≤ mostPorts → Are (coldTable n) (cellsCold (done (coldTable n)) [])
 unfolding coldTable done cellsCold
-cold-are n few = (cells-are (coldTable n) few, cells-table (coldTable n) (length-replicate 48 coldPort))
+cold-are n few = (cells-are (coldTable n) few, cells-table (coldTable n) (length-replicate mostPorts coldPort))
 
 module _ (l : List ℕ) (was : isTable l ≡ true) (well : illMade (tableOf l) ≡ false) where
   -- another port below the count
@@ -147,7 +148,7 @@ module _ (l : List ℕ) (was : isTable l ≡ true) (well : illMade (tableOf l) �
       let t = withPort p x (tableOf l) in
       let h = leb-false (tableOf l .count) p below in
       let ports = length-set (tableOf l .ports) p x ∙ table-ports l in
-      let past : (q : ℕ) → t .count ≤ q → q < 48 → portAt t q ≡ portAt (tableOf l) q = λ q k i. with-port-other l p x q (λ e. omega arith) i ∙ sym (table-at l q i) in
+      let past : (q : ℕ) → t .count ≤ q → q < mostPorts → portAt t q ≡ portAt (tableOf l) q = λ q k i. with-port-other l p x q (λ e. omega arith) i ∙ sym (table-at l q i) in
       (with-are t l was ports refl (few-ports (tableOf l) well) past, with-table t l was ports refl (few-ports (tableOf l) well) past)
 
   -- every port below the count moved and settled
@@ -156,8 +157,8 @@ module _ (l : List ℕ) (was : isTable l ≡ true) (well : illMade (tableOf l) �
   after-are block supply =
       let moved = movedAt (tableOf l) block in
       let t = tableAfter (tableOf l) moved supply in
-      let ports = length-tabulate 48 (portAfter (tableOf l) moved supply) in
-      let past : (q : ℕ) → t .count ≤ q → q < 48 → portAt t q ≡ portAt (tableOf l) q = λ q k i. port-past (tableOf l) moved supply q i k in
+      let ports = length-tabulate mostPorts (portAfter (tableOf l) moved supply) in
+      let past : (q : ℕ) → t .count ≤ q → q < mostPorts → portAt t q ≡ portAt (tableOf l) q = λ q k i. port-past (tableOf l) moved supply q i k in
       (with-are t l was ports refl (few-ports (tableOf l) well) past, with-table t l was ports refl (few-ports (tableOf l) well) past)
 
 module _ (l : List ℕ) where
@@ -178,7 +179,7 @@ module _ (l : List ℕ) where
   cold-fair n =
       choice FairCold (eqb (length l) cellsLong) _ (refuse 13 (tableOf l))
       (ladder-fair FairCold (λ k. refuse k (coldTable 0)) (done (coldTable n)) (coldRefusals n) (search needs)
-      (λ c. cold-are n (ltb-false 48 n (fails-right (eqb n 0) (ltb 48 n) (c .0)))))
+      (λ c. cold-are n (ltb-false mostPorts n (fails-right (eqb n 0) (ltb mostPorts n) (c .0)))))
       (omega arith)
 
   control-fair : (p w : ℕ) → FairTold (controlOn l p w)
@@ -253,7 +254,7 @@ zero-one false e = absurd (omega arith)
 
 zero-saves : (l room : List ℕ) → saveNumber l room ≡ 0 → saves l room ≡ true
 unfolding saveNumber saves
-zero-saves l room = zero-both (imageable l) (eqb (length room) 1014)
+zero-saves l room = zero-both (imageable l) (eqb (length room) imageLong)
 
 zero-restores : (bytes l : List ℕ) → restoreNumber bytes l ≡ 0 → restores bytes l ≡ true
 unfolding restoreNumber
@@ -263,7 +264,7 @@ save-image : (l room : List ℕ) → saveNumber l room ≡ 0 → roomAfter l roo
 unfolding roomAfter
 save-image l room e = simp (zero-saves l room e)
 
-image-zero : (t : Table) (m : List ℕ) → length m ≡ 728 → restoreNumber (imageOf t) m ≡ 0
+image-zero : (t : Table) (m : List ℕ) → length m ≡ cellsLong → restoreNumber (imageOf t) m ≡ 0
 unfolding restoreNumber restores
 image-zero t m fits = simp (image-reads t, eq-eqb _ _ fits)
 
@@ -272,15 +273,15 @@ module _ (bytes l : List ℕ) (zero : restoreNumber bytes l ≡ 0) where
   unfolding restores
   restore-reads = and-left (reads bytes) (eqb (length l) cellsLong) (zero-restores bytes l zero)
 
-  restore-long : length l ≡ 728
+  restore-long : length l ≡ cellsLong
   unfolding restores
-  restore-long = eqb-true (length l) 728 (and-right (reads bytes) (eqb (length l) cellsLong) (zero-restores bytes l zero))
+  restore-long = eqb-true (length l) cellsLong (and-right (reads bytes) (eqb (length l) cellsLong) (zero-restores bytes l zero))
 
   restore-table : tableOf (cellsRestored bytes l) ≡ tableIn bytes
   unfolding cellsRestored tableIn
-  restore-table = simp (zero-restores bytes l zero) (cells-table (tableIn bytes) (length-tabulate 48 (λ p. portIn bytes (6 + 21 * p))))
+  restore-table = simp (zero-restores bytes l zero) (cells-table (tableIn bytes) (length-tabulate mostPorts (λ p. portIn bytes (6 + 21 * p))))
 
-  restore-are : tableIn bytes .count ≤ 48 → isTable (cellsRestored bytes l) ≡ true
+  restore-are : tableIn bytes .count ≤ mostPorts → isTable (cellsRestored bytes l) ≡ true
   unfolding cellsRestored
   restore-are few = simp (zero-restores bytes l zero) (cells-are (tableIn bytes) few)
 

@@ -19,7 +19,7 @@ use Rattle.replies.specs.OnCells.{startOn, controlOn, statusOn, requestOn}
 use Rattle.boards.specs.Masks.{answered}
 use Rattle.passes.specs.OnCells.{tickOn}
 use Rattle.passes.specs.Tick.{tickRefusals, tick}
-use Rattle.image.specs.Image.{imageable}
+use Rattle.image.specs.Image.{imageable, imageLong}
 use Rattle.image.specs.Load.{reads, restores}
 use Rattle.reader.specs.Read.{readRefusals, readOf}
 use Rattle.search.specs.Search.{searchRefusals, searchOf}
@@ -109,7 +109,7 @@ both false b = refl
 
 save-number : (cells image : List ℕ) → saveNumber cells image ≡ firstNumber (saveList cells image)
 unfolding saveNumber
-save-number cells image = two (imageable cells) (eqb (length image) 1014) 1
+save-number cells image = two (imageable cells) (eqb (length image) imageLong) 1
 
 restore-number : (cells image : List ℕ) → restoreNumber image cells ≡ firstNumber (restoreList image cells)
 unfolding restoreNumber restores

@@ -6,6 +6,7 @@ use mathlib.Core.Bool.{true, false}
 use mathlib.Core.List.{List}
 use Prim.Native.Nat.{ℕ, _≤_, _<_}
 use lib.ListN.{length, getD}
+use Rattle.sizes.specs.Sizes.{mostPorts}
 use Rattle.table.specs.declared.form.Answer.{Answer}
 use Rattle.table.specs.declared.form.Answer.the-variants.{Done, Refused}
 use Rattle.table.specs.declared.form.Closed.{Closed}
@@ -16,13 +17,13 @@ use Rattle.table.specs.declared.form.StatusRead.{StatusRead}
 use Rattle.table.specs.declared.form.Table.{Table}
 use Rattle.table.specs.declared.form.Ticked.{Ticked}
 use Rattle.table.specs.declared.form.Told.{Told}
-use Rattle.cells.specs.Cells.{tableOf, isTable, isOfPort}
+use Rattle.cells.specs.Cells.{tableOf, isTable, isOfPort, cellsLong}
 use Rattle.cells.specs.Lent.{cellsTold, cellsRead, cellsTicked, cellsCold}
 use Rattle.replies.specs.Calls.{request}
 use Rattle.replies.specs.OnCells.{startOn, controlOn, statusOn, requestOn}
 use Rattle.passes.specs.OnCells.{tickOn}
 use Rattle.passes.specs.Tick.{tick}
-use Rattle.image.specs.Image.{imageOf, roomAfter}
+use Rattle.image.specs.Image.{imageOf, roomAfter, imageLong}
 use Rattle.image.specs.Load.{tableIn, cellsRestored}
 use Rattle.ipaqsuni.specs.Calls.{answerNumber, statusNumber, wordLeft, tickNumber, maskALeft, maskBLeft, closedLeft, saveNumber, restoreNumber}
 use Rattle.ipaqsuni.specs.Outcome.{Outcome, refused, accepted}
@@ -80,12 +81,12 @@ pub record Untouched : Type 0 where
 pub record Images : Type 0 where
   -- what was saved is the table's image; restored, into whatever cells, it is the same table again
   pub saved : (l room : List ℕ) → saveNumber l room ≡ 0 → roomAfter l room ≡ imageOf (tableOf l)
-  pub back : (l room m : List ℕ) → saveNumber l room ≡ 0 → length m ≡ 728 → (restoreNumber (roomAfter l room) m ≡ 0) × (tableOf (cellsRestored (roomAfter l room) m) ≡ tableOf l)
+  pub back : (l room m : List ℕ) → saveNumber l room ≡ 0 → length m ≡ cellsLong → (restoreNumber (roomAfter l room) m ≡ 0) × (tableOf (cellsRestored (roomAfter l room) m) ≡ tableOf l)
   -- what was restored is the image's table, and one that calls take up if it has at most 48 ports
   pub restored : (bytes l : List ℕ) → restoreNumber bytes l ≡ 0 → tableOf (cellsRestored bytes l) ≡ tableIn bytes
-  pub table : (bytes l : List ℕ) → restoreNumber bytes l ≡ 0 → tableIn bytes .count ≤ 48 → isTable (cellsRestored bytes l) ≡ true
+  pub table : (bytes l : List ℕ) → restoreNumber bytes l ≡ 0 → tableIn bytes .count ≤ mostPorts → isTable (cellsRestored bytes l) ≡ true
   -- and saved again it has the same bytes
-  pub again : (bytes l room : List ℕ) → ((k : ℕ) → getD bytes k 0 < 256) → restoreNumber bytes l ≡ 0 → length room ≡ 1014
+  pub again : (bytes l room : List ℕ) → ((k : ℕ) → getD bytes k 0 < 256) → restoreNumber bytes l ≡ 0 → length room ≡ imageLong
       → (saveNumber (cellsRestored bytes l) room ≡ 0) × (roomAfter (cellsRestored bytes l) room ≡ bytes)
 
 -- ---- the calls on frames, which have no table

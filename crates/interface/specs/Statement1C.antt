@@ -16,7 +16,7 @@ use Rattle.replies.specs.Calls.{coldRefusals, controlRefusals, statusRefusals, 
 use Rattle.replies.specs.OnCells.{startOn, controlOn, statusOn, requestOn}
 use Rattle.passes.specs.OnCells.{tickOn}
 use Rattle.passes.specs.Tick.{tickRefusals, tick}
-use Rattle.image.specs.Image.{imageable, roomAfter}
+use Rattle.image.specs.Image.{imageable, roomAfter, imageLong}
 use Rattle.image.specs.Load.{reads, cellsRestored}
 use Rattle.reader.specs.Read.{readRefusals}
 use Rattle.search.specs.Search.{searchRefusals}
@@ -49,7 +49,7 @@ tickList cells samples supply = (13, not (isTable cells)) ∷ tickRefusals (tabl
 
 -- an image is nothing of document 01's: all of its numbers are the interface's own
 abbrev pub saveList : List ℕ → List ℕ → List (ℕ × Bool)
-saveList cells image = (13, not (imageable cells)) ∷ (1, not (eqb (length image) 1014)) ∷ []
+saveList cells image = (13, not (imageable cells)) ∷ (1, not (eqb (length image) imageLong)) ∷ []
 
 abbrev pub restoreList : List ℕ → List ℕ → List (ℕ × Bool)
 restoreList image cells = (13, not (reads image)) ∷ (13, not (eqb (length cells) cellsLong)) ∷ []

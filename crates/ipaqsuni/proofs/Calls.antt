@@ -7,9 +7,9 @@ use mathlib.Core.List.{List}
 use lib.Dec.{eqb}
 use lib.ListN.{length}
 use Rattle.lists.proofs.Tests.{and-left, and-right}
-use Rattle.image.specs.Image.{imageable, saves}
+use Rattle.image.specs.Image.{imageable, saves, imageLong}
 use Rattle.ipaqsuni.specs.Calls.{saveNumber}
 
 pub saves-zero : (l room : List ℕ) → saves l room ≡ true → saveNumber l room ≡ 0
 unfolding saveNumber saves
-saves-zero l room e = simp (and-left (imageable l) (eqb (length room) 1014) e, and-right (imageable l) (eqb (length room) 1014) e)
+saves-zero l room e = simp (and-left (imageable l) (eqb (length room) imageLong) e, and-right (imageable l) (eqb (length room) imageLong) e)

@@ -6,13 +6,13 @@ use mathlib.Core.List.{List}
 use Prim.Native.Nat.{ℕ}
 use lib.Dec.{eqb}
 use lib.ListN.{length}
-use Rattle.image.specs.Image.{imageable, saves}
+use Rattle.image.specs.Image.{imageable, saves, imageLong}
 use Rattle.ipaqsuni.specs.Calls.{saveNumber}
 
 module _ (l room : List ℕ) where
   pub number-room : saves l room ≡ false → imageable l ≡ true → saveNumber l room ≡ 1
   unfolding saves saveNumber
-  number-room e h = let fits : eqb (length room) 1014 ≡ false = simp h at e in simp (h, fits)
+  number-room e h = let fits : eqb (length room) imageLong ≡ false = simp h at e in simp (h, fits)
 
   pub number-cells : imageable l ≡ false → saveNumber l room ≡ 13
   unfolding saveNumber

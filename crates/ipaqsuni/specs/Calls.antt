@@ -11,7 +11,7 @@ use Rattle.table.specs.declared.form.Closed.{Closed}
 use Rattle.table.specs.declared.form.Closed.the-variants.{Ports, Refused as NoTick}
 use Rattle.table.specs.declared.form.Status.{Status}
 use Rattle.table.specs.declared.form.Status.the-variants.{Word, Refused as NoStatus}
-use Rattle.image.specs.Image.{imageable}
+use Rattle.image.specs.Image.{imageable, imageLong}
 use Rattle.image.specs.Load.{restores}
 
 -- include/ipaqsuni.h: "Each function answers 0, or the number of the refusal."
@@ -48,7 +48,7 @@ closedLeft (NoTick number) before = before
 
 -- include/ipaqsuni.h: "Refused: 13 for cells that no image holds (..), then 1 for a room of another length than IPAQSUNI_IMAGE."
 unfoldable pub saveNumber : List ℕ → List ℕ → ℕ
-saveNumber l room = cond (imageable l) (cond (eqb (length room) 1014) 0 1) 13
+saveNumber l room = cond (imageable l) (cond (eqb (length room) imageLong) 0 1) 13
 
 -- include/ipaqsuni.h: "Refused: 13 for bytes that are no image (..) and for another number of cells than IPAQSUNI_CELLS."
 unfoldable pub restoreNumber : List ℕ → List ℕ → ℕ

@@ -1,9 +1,14 @@
 // From the bytes of an image to the cells of its table.
+use sizes::CELLS;
+use sizes::IMAGE;
+use sizes::IMAGE_PORT;
+use sizes::PORTS;
 ghost use mathlib.Core.Path.{_≡_};
 ghost use mathlib.Core.Bool.{true};
 ghost use Prim.Native.Nat.{_+_, _<_};
 ghost use lib.ListN.{length, replicate};
-ghost use Rattle.cells.specs.Cells.{cellsOf};
+ghost use Rattle.sizes.specs.Sizes.{mostPorts};
+ghost use Rattle.cells.specs.Cells.{cellsOf, cellsLong};
 ghost use Rattle.cells.specs.Writes.{withPortCells, withCountCells};
 ghost use Rattle.image.specs.Load.{wordAt, countsIn, portIn, portReads, tableIn, reads, restores, cellsRestored};
 
@@ -27,15 +32,15 @@ fn port_reads(bytes: &[u8], at: usize) -> bool
 fn reads(bytes: &[u8]) -> bool
     ensures { λ r. ⌜ r ≡ reads (now (bytes .entry)) ⌝ }
 {
-    if bytes.len() != 1_014 {
+    if bytes.len() != IMAGE {
         return false;
     }
     if word_at(bytes, 2) != 0 {
         return false;
     }
     let mut p = 0;
-    while p < 48 {
-        if !port_reads(bytes, 6 + 21 * p) {
+    while p < PORTS {
+        if !port_reads(bytes, 6 + IMAGE_PORT * p) {
             return false;
         }
         p += 1;
@@ -45,11 +50,11 @@ fn reads(bytes: &[u8]) -> bool
 
 // What is nobody's is 0.
 fn clear(cells: &mut [u16])
-    requires { ⌜ length (now cells) ≡ 728 ⌝ }
-    ensures { λ _. ⌜ now (cells .exit) ≡ replicate 728 0 ⌝ }
+    requires { ⌜ length (now cells) ≡ cellsLong ⌝ }
+    ensures { λ _. ⌜ now (cells .exit) ≡ replicate cellsLong 0 ⌝ }
 {
     let mut k = 0;
-    while k < 728 {
+    while k < CELLS {
         cells[k] = 0;
         k += 1;
     }
@@ -57,8 +62,8 @@ fn clear(cells: &mut [u16])
 
 fn put_counts(bytes: &[u8], at: usize, cells: &mut [u16], p: usize)
     requires { ⌜ at + 13 < length (now bytes) ⌝ }
-    requires { ⌜ length (now cells) ≡ 728 ⌝ }
-    requires { ⌜ p < 48 ⌝ }
+    requires { ⌜ length (now cells) ≡ cellsLong ⌝ }
+    requires { ⌜ p < mostPorts ⌝ }
     ensures { λ _. ⌜ now (cells .exit) ≡ withCountCells p (countsIn (now (bytes .entry)) at) (now (cells .entry)) ⌝ }
 {
     cells[248 + p] = word_at(bytes, at);
@@ -74,8 +79,8 @@ fn put_counts(bytes: &[u8], at: usize, cells: &mut [u16], p: usize)
 fn put_port(bytes: &[u8], at: usize, cells: &mut [u16], p: usize)
     requires { ⌜ at + 20 < length (now bytes) ⌝ }
     requires { ⌜ portReads (now bytes) at ≡ true ⌝ }
-    requires { ⌜ length (now cells) ≡ 728 ⌝ }
-    requires { ⌜ p < 48 ⌝ }
+    requires { ⌜ length (now cells) ≡ cellsLong ⌝ }
+    requires { ⌜ p < mostPorts ⌝ }
     ensures { λ _. ⌜ now (cells .exit) ≡ withPortCells p (portIn (now (bytes .entry)) at) (now (cells .entry)) ⌝ }
 {
     cells[8 + p] = bytes[at] as u16;
@@ -88,15 +93,15 @@ fn put_port(bytes: &[u8], at: usize, cells: &mut [u16], p: usize)
 
 fn put(bytes: &[u8], cells: &mut [u16])
     requires { ⌜ reads (now bytes) ≡ true ⌝ }
-    requires { ⌜ length (now cells) ≡ 728 ⌝ }
+    requires { ⌜ length (now cells) ≡ cellsLong ⌝ }
     ensures { λ _. ⌜ now (cells .exit) ≡ cellsOf (tableIn (now (bytes .entry))) ⌝ }
 {
     clear(cells);
     cells[0] = word_at(bytes, 0);
     cells[1] = word_at(bytes, 4);
     let mut p = 0;
-    while p < 48 {
-        put_port(bytes, 6 + 21 * p, cells, p);
+    while p < PORTS {
+        put_port(bytes, 6 + IMAGE_PORT * p, cells, p);
         p += 1;
     }
 }
@@ -106,7 +111,7 @@ pub fn load(bytes: &[u8], cells: &mut [u16]) -> bool
     ensures { λ r. ⌜ r ≡ restores (now (bytes .entry)) (now (cells .entry)) ⌝ }
     ensures { λ _. ⌜ now (cells .exit) ≡ cellsRestored (now (bytes .entry)) (now (cells .entry)) ⌝ }
 {
-    if cells.len() != 728 {
+    if cells.len() != CELLS {
         return false;
     }
     if !reads(bytes) {

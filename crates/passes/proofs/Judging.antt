@@ -8,6 +8,7 @@ use native.Mathlib.Omega.{arith}
 use lib.Dec.{eqb, ltb}
 use lib.ListN.{length, replicate}
 use borrow.Author.Tests.{eqb-true, ltb-false}
+use Rattle.sizes.specs.Sizes.{mostPorts, mostSupply, sampleBytes}
 use Rattle.lists.specs.Every.{someBelow}
 use Rattle.lists.proofs.Every.{nowhere}
 use Rattle.lists.specs.Ladder.{ladder}
@@ -42,7 +43,7 @@ module _ (l block : List ℕ) (figure : ℕ) where
 
   flags-are : flagsReserved t block ≡ not (flagsFine (countCell l) block)
   unfolding flagsReserved flagsFine flagsOfPort tableOf
-  flags-are = sym (Bool·not-not (someBelow (countCell l) (λ p. reservedFlags (sampleAt block (14 * p) .flags)))) ∙ ap not (nowhere (countCell l) (λ p. reservedFlags (sampleAt block (14 * p) .flags)))
+  flags-are = sym (Bool·not-not (someBelow (countCell l) (λ p. reservedFlags (sampleAt block (sampleBytes * p) .flags)))) ∙ ap not (nowhere (countCell l) (λ p. reservedFlags (sampleAt block (sampleBytes * p) .flags)))
 
   -- the tick is its refusal, or the value
   pub judged : tickOn l block figure ≡ cond (eqb number 0) value (refuseTick number t)
@@ -50,10 +51,10 @@ module _ (l block : List ℕ) (figure : ℕ) where
   judged = go (wellCells l) refl
     where
       rest : List (ℕ × Bool)
-      rest = (1, not (eqb (length block) (14 * countCell l))) ∷ (4, ltb 60000 figure) ∷ (3, flagsReserved t block) ∷ []
+      rest = (1, not (eqb (length block) (sampleBytes * countCell l))) ∷ (4, ltb mostSupply figure) ∷ (3, flagsReserved t block) ∷ []
 
       k : Bool → ℕ
-      k w = by w (eqb (length block) (14 * countCell l)) (ltb 60000 figure) (flagsFine (countCell l) block)
+      k w = by w (eqb (length block) (sampleBytes * countCell l)) (ltb mostSupply figure) (flagsFine (countCell l) block)
 
       ends : (a b c : Bool)
           → ladder ((1, not a) ∷ (4, b) ∷ (3, not c) ∷ []) (λ j. refuseTick j t) value
@@ -66,23 +67,23 @@ module _ (l block : List ℕ) (figure : ℕ) where
       go : (w : Bool) → wellCells l ≡ w → tickOn l block figure ≡ cond (eqb (k w) 0) value (refuseTick (k w) t)
       go true q =
           well-goes l rest (λ j. refuseTick j t) value q
-          ∙ ap (λ (b : Bool). ladder ((1, not (eqb (length block) (14 * countCell l))) ∷ (4, ltb 60000 figure) ∷ (3, b) ∷ []) (λ j. refuseTick j t) value) flags-are
-          ∙ ends (eqb (length block) (14 * countCell l)) (ltb 60000 figure) (flagsFine (countCell l) block)
+          ∙ ap (λ (b : Bool). ladder ((1, not (eqb (length block) (sampleBytes * countCell l))) ∷ (4, ltb mostSupply figure) ∷ (3, b) ∷ []) (λ j. refuseTick j t) value) flags-are
+          ∙ ends (eqb (length block) (sampleBytes * countCell l)) (ltb mostSupply figure) (flagsFine (countCell l) block)
       go false q = ill-cells l rest (λ j. refuseTick j t) value q
 
   -- what it means that nothing is refused
-  pub clear : number ≡ 0 → (wellCells l ≡ true) × (length block ≡ 14 * countCell l) × (figure ≤ 60000) × (flagsFine (countCell l) block ≡ true)
+  pub clear : number ≡ 0 → (wellCells l ≡ true) × (length block ≡ sampleBytes * countCell l) × (figure ≤ mostSupply) × (flagsFine (countCell l) block ≡ true)
   unfolding refusalOf
-  clear e = go (wellCells l) (eqb (length block) (14 * countCell l)) (ltb 60000 figure) (flagsFine (countCell l) block) refl refl refl refl e
+  clear e = go (wellCells l) (eqb (length block) (sampleBytes * countCell l)) (ltb mostSupply figure) (flagsFine (countCell l) block) refl refl refl refl e
     where
-      go : (w a b c : Bool) → wellCells l ≡ w → eqb (length block) (14 * countCell l) ≡ a → ltb 60000 figure ≡ b → flagsFine (countCell l) block ≡ c
+      go : (w a b c : Bool) → wellCells l ≡ w → eqb (length block) (sampleBytes * countCell l) ≡ a → ltb mostSupply figure ≡ b → flagsFine (countCell l) block ≡ c
           → by w a b c ≡ 0
-          → (wellCells l ≡ true) × (length block ≡ 14 * countCell l) × (figure ≤ 60000) × (flagsFine (countCell l) block ≡ true)
+          → (wellCells l ≡ true) × (length block ≡ sampleBytes * countCell l) × (figure ≤ mostSupply) × (flagsFine (countCell l) block ≡ true)
       go true true true c p q r s z = absurd (omega arith)
-      go true true false true p q r s z = (p, eqb-true _ _ q, ltb-false 60000 figure r, s)
+      go true true false true p q r s z = (p, eqb-true _ _ q, ltb-false mostSupply figure r, s)
       go true true false false p q r s z = absurd (omega arith)
       go true false b c p q r s z = absurd (omega arith)
       go false a b c p q r s z = absurd (omega arith)
 
-  pub ready : (lane : List ℕ) → number ≡ 0 → lane ≡ flagLane (countCell l) block (replicate 48 0) → Ready l block lane
+  pub ready : (lane : List ℕ) → number ≡ 0 → lane ≡ flagLane (countCell l) block (replicate mostPorts 0) → Ready l block lane
   ready lane e f = let h = clear e in record { well = h .0; sized = h .1; fine = h .3; flags = f }

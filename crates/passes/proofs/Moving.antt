@@ -10,6 +10,7 @@ use native.Mathlib.Omega.{arith}
 use lib.Dec.{eqb}
 use lib.ListN.{length, getD}
 use borrow.Author.Tests.{eqb-true}
+use Rattle.sizes.specs.Sizes.{mostPorts, sampleBytes}
 use Rattle.lists.specs.Every.{someBelow}
 use Rattle.lists.specs.Places.{Filled}
 use Rattle.lists.proofs.Places.{side}
@@ -30,7 +31,7 @@ use Rattle.claims.specs.Claimed.{isSet}
 use Rattle.passes.specs.Passes.{wholeMove, markedMove}
 
 -- a pass over cells l that makes g of their ports
-module _ (n : ℕ) (g : ℕ → Port) (l : List ℕ) (few : n ≤ 48) (long : length l ≡ cellsLong) where
+module _ (n : ℕ) (g : ℕ → Port) (l : List ℕ) (few : n ≤ mostPorts) (long : length l ≡ cellsLong) where
   abbrev Come : ℕ → List ℕ → Type 0
   Come i m = m ≡ written n (stage i g (portOf l)) l
 
@@ -68,15 +69,15 @@ module _ (n : ℕ) (g : ℕ → Port) (l : List ℕ) (few : n ≤ 48) (long : le
       -- it takes its whole step if it is marked
       pub come-moved : (mark : ℕ) (block : List ℕ) → markedMove mark block m i ≡ markedMove mark block l i
       unfolding markedMove wholeMove
-      come-moved mark block = ap (λ (x : Port). cond (isSet mark) (step forced x (digest (sampleAt block (14 * i)))) (quietly x)) come-port
+      come-moved mark block = ap (λ (x : Port). cond (isSet mark) (step forced x (digest (sampleAt block (sampleBytes * i)))) (quietly x)) come-port
 
       pub come-stepped : (mark : ℕ) (block : List ℕ) → g i ≡ markedMove mark block l i .port
           → cond (isSet mark) (withPortCells i (wholeMove block m i .port) m) m ≡ written n (stage (i + 1) g (portOf l)) l
       unfolding markedMove wholeMove
       come-stepped mark block q =
           come-more (isSet mark) (wholeMove block m i .port)
-          (λ t. ap (λ (x : Port). step forced x (digest (sampleAt block (14 * i))) .port) come-port ∙ sym (q ∙ ap (λ (b : Bool). cond b (step forced (portOf l i) (digest (sampleAt block (14 * i)))) (quietly (portOf l i)) .port) t))
-          (λ f. q ∙ ap (λ (b : Bool). cond b (step forced (portOf l i) (digest (sampleAt block (14 * i)))) (quietly (portOf l i)) .port) f)
+          (λ t. ap (λ (x : Port). step forced x (digest (sampleAt block (sampleBytes * i))) .port) come-port ∙ sym (q ∙ ap (λ (b : Bool). cond b (step forced (portOf l i) (digest (sampleAt block (sampleBytes * i)))) (quietly (portOf l i)) .port) t))
+          (λ f. q ∙ ap (λ (b : Bool). cond b (step forced (portOf l i) (digest (sampleAt block (sampleBytes * i)))) (quietly (portOf l i)) .port) f)
 
     -- some places are passed over, since their ports stay as they are
     pub come-over : (j : ℕ) → i ≤ j → ((p : ℕ) → i ≤ p → p < j → p < n → g p ≡ portOf l p) → m ≡ written n (stage j g (portOf l)) l

@@ -12,6 +12,7 @@ use native.Mathlib.Omega.{arith}
 use lib.Dec.{ltb, leb}
 use lib.ListN.{getD}
 use borrow.Author.Tests.{lt-ltb, le-ltb, le-leb, lt-leb, leb-true}
+use Rattle.sizes.specs.Sizes.{mostPorts}
 use Rattle.lists.specs.Places.{tabulate}
 use Rattle.lists.proofs.Places.{getD-tabulate, tabulate-cong, side}
 use Rattle.lists.specs.Tests.{choice}
@@ -53,13 +54,13 @@ entered true x = refl
 entered false x = refl
 
 -- a table, its moves, and the cells and the lane that hold what they came to
-module _ (t : Table) (moved : ℕ → Moved) (opens : Opens t moved) (few : t .count ≤ 48) (l lane : List ℕ)
+module _ (t : Table) (moved : ℕ → Moved) (opens : Opens t moved) (few : t .count ≤ mostPorts) (l lane : List ℕ)
     (ports : (p : ℕ) → p < t .count → portOf l p ≡ moved p .port) (asks : (p : ℕ) → p < t .count → isSet (getD lane p 0) ≡ moved p .asks) where
   -- the ranks and the demands that the passes work out are the claims'
-  ranks-are : ranksOn (t .count) lane l ≡ tabulate 48 (rankAt t moved)
+  ranks-are : ranksOn (t .count) lane l ≡ tabulate mostPorts (rankAt t moved)
   unfolding ranksOn rankAt
   ranks-are =
-      tabulate-cong 48 _ (rankAt t moved)
+      tabulate-cong mostPorts _ (rankAt t moved)
       (λ p h.
       ⊎-elim
       (λ (k : p < t .count).
@@ -68,10 +69,10 @@ module _ (t : Table) (moved : ℕ → Moved) (opens : Opens t moved) (few : t .c
       (λ (k : t .count ≤ p). simp (le-ltb p (t .count) k))
       (side p (t .count)))
 
-  demands-are : demandsOn (t .count) l ≡ tabulate 48 (claimAt t moved)
+  demands-are : demandsOn (t .count) l ≡ tabulate mostPorts (claimAt t moved)
   unfolding demandsOn claimAt
   demands-are =
-      tabulate-cong 48 _ (claimAt t moved)
+      tabulate-cong mostPorts _ (claimAt t moved)
       (λ p h.
       ⊎-elim
       (λ (k : p < t .count). simp (lt-ltb p (t .count) k) (ap (λ (x : Port). x .demand) (ports p k)))
@@ -101,10 +102,10 @@ module _ (t : Table) (moved : ℕ → Moved) (opens : Opens t moved) (few : t .c
       go false false true o = le-trans (at-most (ltb (3 + u) noClaim)) (le-add-left d 0)
       go false false false o = le-refl 0
 
-  pub claimed-at-most : claimedSum 48 (rankAt t moved) (λ q. claimAt t moved q .0) ≤ total (t .count) (λ p. draws (moved p .port)) + total (t .count) (λ p. cond (moved p .asks) (moved p .port .demand .0) 0)
+  pub claimed-at-most : claimedSum mostPorts (rankAt t moved) (λ q. claimAt t moved q .0) ≤ total (t .count) (λ p. draws (moved p .port)) + total (t .count) (λ p. cond (moved p .asks) (moved p .port .demand .0) 0)
   unfolding claimedSum sumWhere claims rankAt
   claimed-at-most =
-      rw (total-less (t .count) 48 (λ p. cond (claims (rankAt t moved) p) (claimAt t moved p .0) 0) few past)
+      rw (total-less (t .count) mostPorts (λ p. cond (claims (rankAt t moved) p) (claimAt t moved p .0) 0) few past)
       (rw (sym (total-plus (t .count) (λ p. draws (moved p .port)) (λ p. cond (moved p .asks) (moved p .port .demand .0) 0)))
       (total-mono (t .count) (λ p. cond (claims (rankAt t moved) p) (claimAt t moved p .0) 0) (λ p. draws (moved p .port) + cond (moved p .asks) (moved p .port .demand .0) 0) claim-here))
     where
@@ -118,11 +119,11 @@ module _ (t : Table) (moved : ℕ → Moved) (opens : Opens t moved) (few : t .c
 
   module _ (supply : Power) where
     -- the claims that the passes keep
-    kept-is : (p : ℕ) → p < 48 → getD (keptOn (ranksOn (t .count) lane l) (demandsOn (t .count) l) (supply .0)) p false ≡ keptAt t moved supply p
+    kept-is : (p : ℕ) → p < mostPorts → getD (keptOn (ranksOn (t .count) lane l) (demandsOn (t .count) l) (supply .0)) p false ≡ keptAt t moved supply p
     unfolding keptOn keptAt claimsOf
     kept-is p h =
-        ap₂ (λ (r : List ℕ) (d : List Power). getD (tabulate 48 (keeps 48 (rankOf (record { ranks = r; demands = d })) (demandOf (record { ranks = r; demands = d })) (supply .0))) p false) ranks-are demands-are
-        ∙ getD-tabulate 48 (keeps 48 (rankOf (claimsOf (rankAt t moved) (claimAt t moved))) (demandOf (claimsOf (rankAt t moved) (claimAt t moved))) (supply .0)) false p h
+        ap₂ (λ (r : List ℕ) (d : List Power). getD (tabulate mostPorts (keeps mostPorts (rankOf (record { ranks = r; demands = d })) (demandOf (record { ranks = r; demands = d })) (supply .0))) p false) ranks-are demands-are
+        ∙ getD-tabulate mostPorts (keeps mostPorts (rankOf (claimsOf (rankAt t moved) (claimAt t moved))) (demandOf (claimsOf (rankAt t moved) (claimAt t moved))) (supply .0)) false p h
         ∙ claims-of (rankAt t moved) (claimAt t moved) (supply .0) p h
 
     -- a place below the count settles as the definition says
@@ -131,7 +132,7 @@ module _ (t : Table) (moved : ℕ → Moved) (opens : Opens t moved) (few : t .c
     settled-is p h =
         let k = kept-is p (omega arith) in
         let r : getD (ranksOn (t .count) lane l) p 0 ≡ rank (portAt t p .state) (moved p) =
-        ap (λ (x : List ℕ). getD x p 0) ranks-are ∙ getD-tabulate 48 (rankAt t moved) 0 p (omega arith) ∙ rank-here t moved p h in
+        ap (λ (x : List ℕ). getD x p 0) ranks-are ∙ getD-tabulate mostPorts (rankAt t moved) 0 p (omega arith) ∙ rank-here t moved p h in
         let K = keptAt t moved supply p in
         let R = rank (portAt t p .state) (moved p) in
         ap (λ (m : Moved). m .port)
@@ -142,10 +143,10 @@ module _ (t : Table) (moved : ℕ → Moved) (opens : Opens t moved) (few : t .c
         ∙ ap (λ (x : ℕ). settled x K (moved p)) (sym (rank-here t moved p h)))
 
     -- where all claims fit, who asked enters its state, and every other port is as its move left it
-    module _ (fits : claimedSum 48 (rankAt t moved) (λ q. claimAt t moved q .0) ≤ supply .0) where
+    module _ (fits : claimedSum mostPorts (rankAt t moved) (λ q. claimAt t moved q .0) ≤ supply .0) where
       kept-all : (p : ℕ) → keptAt t moved supply p ≡ ltb (rankAt t moved p) noClaim
       unfolding keptAt claims
-      kept-all p = all-keep 48 (rankAt t moved) (λ q. claimAt t moved q .0) (supply .0) p fits
+      kept-all p = all-keep mostPorts (rankAt t moved) (λ q. claimAt t moved q .0) (supply .0) p fits
 
       admitted : (r : ℕ) (m : Moved) → (m .asks ≡ true → r < noClaim) → settled r (ltb r noClaim) m .port ≡ cond (m .asks) (granted (m .port .state) (m .port)) (m .port)
       unfolding settled

@@ -11,6 +11,7 @@ use native.Mathlib.Omega.{arith}
 use lib.Dec.{eqb, leb, ltb}
 use lib.ListN.{length, getD, set, length-set, getD-replicate}
 use borrow.Author.Tests.{lt-ltb, le-ltb, le-leb, lt-leb, eq-eqb, ne-eqb, not-true, ltb-false, leb-false, eqb-false}
+use Rattle.sizes.specs.Sizes.{mostPorts, sampleBytes}
 use Rattle.lists.specs.Bits.{bit, field, above, one}
 use Rattle.lists.proofs.Bits.{field-low}
 use Rattle.lists.specs.Every.{someBelow}
@@ -109,28 +110,28 @@ module _ (l block lane : List ℕ) (ready : Ready l block lane) where
   well : WellCells l
   well = cells-of l (ready .well)
 
-  abbrev few : n ≤ 48
+  abbrev few : n ≤ mostPorts
   few = well .few-ports
 
   long : 584 ≤ length l
   long = omega (arith, well .long)
 
   -- ---- the lane of flags
-  pub lane-long : length lane ≡ 48
+  pub lane-long : length lane ≡ mostPorts
   unfolding flagLane
-  lane-long = ap length (ready .flags) ∙ length-tabulate 48 _
+  lane-long = ap length (ready .flags) ∙ length-tabulate mostPorts _
 
-  lane-at : (p : ℕ) → p < 48 → getD lane p 0 ≡ cond (ltb p n) (flagsOfPort block p) 0
+  lane-at : (p : ℕ) → p < mostPorts → getD lane p 0 ≡ cond (ltb p n) (flagsOfPort block p) 0
   unfolding flagLane
   lane-at p h =
       ap (λ (x : List ℕ). getD x p 0) (ready .flags)
-      ∙ getD-tabulate 48 _ 0 p h
-      ∙ ap (cond (ltb p n) (flagsOfPort block p)) (getD-replicate 48 p 0 0 h)
+      ∙ getD-tabulate mostPorts _ 0 p h
+      ∙ ap (cond (ltb p n) (flagsOfPort block p)) (getD-replicate mostPorts p 0 0 h)
 
   lane-flags : (p : ℕ) → p < n → getD lane p 0 ≡ flagsOfPort block p
   lane-flags p h = lane-at p (omega (arith, few)) ∙ simp (lt-ltb p n h)
 
-  lane-past : (p : ℕ) → n ≤ p → p < 48 → getD lane p 0 ≡ 0
+  lane-past : (p : ℕ) → n ≤ p → p < mostPorts → getD lane p 0 ≡ 0
   lane-past p h k = lane-at p k ∙ simp (le-ltb p n h)
 
   flags-small : (p : ℕ) → p < n → flagsOfPort block p < 64
@@ -150,7 +151,7 @@ module _ (l block lane : List ℕ) (ready : Ready l block lane) where
 
   sweeps : sweepable l lane ≡ true
   unfolding sweepable
-  sweeps = simp (eq-eqb _ _ (well .long), eq-eqb _ _ lane-long, le-leb n 48 few)
+  sweeps = simp (eq-eqb _ _ (well .long), eq-eqb _ _ lane-long, le-leb n mostPorts few)
 
   abbrev after : ℕ → Port
   after p = swept (getD lane p 0) l p
@@ -159,9 +160,9 @@ module _ (l block lane : List ℕ) (ready : Ready l block lane) where
   unfolding sweptCells
   cells1 = simp sweeps (looked-written lane l n few (well .long) fair)
 
-  lane1-at : (p : ℕ) → p < 48 → getD (sweptLane l lane) p 0 ≡ cond (ltb p n) (lookedAt (getD lane p 0) l p .mark) (getD lane p 0)
+  lane1-at : (p : ℕ) → p < mostPorts → getD (sweptLane l lane) p 0 ≡ cond (ltb p n) (lookedAt (getD lane p 0) l p .mark) (getD lane p 0)
   unfolding sweptLane lookedLane
-  lane1-at p h = simp sweeps (getD-tabulate 48 _ 0 p h)
+  lane1-at p h = simp sweeps (getD-tabulate mostPorts _ 0 p h)
 
   lane1-set : (p : ℕ) → p < n → isSet (getD (sweptLane l lane) p 0) ≡ isMarked (getD lane p 0) l p
   unfolding isMarked
@@ -169,12 +170,12 @@ module _ (l block lane : List ℕ) (ready : Ready l block lane) where
       ap isSet (lane1-at p (omega (arith, few)))
       ∙ ap (λ (b : Bool). isSet (cond b (lookedAt (getD lane p 0) l p .mark) (getD lane p 0))) (lt-ltb p n h)
 
-  lane1-past : (p : ℕ) → n ≤ p → p < 48 → getD (sweptLane l lane) p 0 ≡ 0
+  lane1-past : (p : ℕ) → n ≤ p → p < mostPorts → getD (sweptLane l lane) p 0 ≡ 0
   lane1-past p h k = lane1-at p k ∙ simp (le-ltb p n h) (lane-past p h k)
 
-  pub lane1-long : length (sweptLane l lane) ≡ 48
+  pub lane1-long : length (sweptLane l lane) ≡ mostPorts
   unfolding sweptLane lookedLane
-  lane1-long = simp sweeps (length-tabulate 48 _)
+  lane1-long = simp sweeps (length-tabulate mostPorts _)
 
   port1 : (p : ℕ) → p < n → portOf (sweptCells l lane) p ≡ after p
   port1 p h = ap (λ (x : List ℕ). portOf x p) cells1 ∙ port-written n after l few long p h
@@ -195,25 +196,25 @@ module _ (l block lane : List ℕ) (ready : Ready l block lane) where
       omega (arith, well .class p h)
 
   -- ---- the move of each port, quick or whole
-  reading-signs : (p : ℕ) → p < n → signsOf (digest (sampleAt block (14 * p))) ≡ signsBy (getD lane p 0)
+  reading-signs : (p : ℕ) → p < n → signsOf (digest (sampleAt block (sampleBytes * p))) ≡ signsBy (getD lane p 0)
   unfolding flagsOfPort
   reading-signs p h =
-      signs-in (sampleAt block (14 * p)) ∙ signs-same (flagsOfPort block p) (flags-small p h) ∙ ap signsBy (sym (lane-flags p h))
+      signs-in (sampleAt block (sampleBytes * p)) ∙ signs-same (flagsOfPort block p) (flags-small p h) ∙ ap signsBy (sym (lane-flags p h))
 
-  mv-is : (p : ℕ) → p < n → mv p ≡ step forced (portOf l p) (digest (sampleAt block (14 * p)))
+  mv-is : (p : ℕ) → p < n → mv p ≡ step forced (portOf l p) (digest (sampleAt block (sampleBytes * p)))
   unfolding movedAt
-  mv-is p h = ap (λ (x : Port). step forced x (digest (sampleAt block (14 * p)))) (table-at l p (omega (arith, few)))
+  mv-is p h = ap (λ (x : Port). step forced x (digest (sampleAt block (sampleBytes * p)))) (table-at l p (omega (arith, few)))
 
   unmarked-is : (p : ℕ) → p < n → isMarked (getD lane p 0) l p ≡ false → mv p ≡ quietly (after p)
-  unmarked-is p h e = mv-is p h ∙ unmarked-moves forced (getD lane p 0) l p (fair p h) (digest (sampleAt block (14 * p))) (reading-signs p h) e
+  unmarked-is p h e = mv-is p h ∙ unmarked-moves forced (getD lane p 0) l p (fair p h) (digest (sampleAt block (sampleBytes * p))) (reading-signs p h) e
 
   move-is : (p : ℕ) → p < n → markedMove (getD (sweptLane l lane) p 0) block (sweptCells l lane) p ≡ mv p
   unfolding markedMove wholeMove
   move-is p h = ap (λ (b : Bool). cond b (wholeMove block (sweptCells l lane) p) (quietly (portOf (sweptCells l lane) p))) (lane1-set p h) ∙ go (isMarked (getD lane p 0) l p) refl
     where
-      go : (b : Bool) → isMarked (getD lane p 0) l p ≡ b → cond b (step forced (portOf (sweptCells l lane) p) (digest (sampleAt block (14 * p)))) (quietly (portOf (sweptCells l lane) p)) ≡ mv p
+      go : (b : Bool) → isMarked (getD lane p 0) l p ≡ b → cond b (step forced (portOf (sweptCells l lane) p) (digest (sampleAt block (sampleBytes * p)))) (quietly (portOf (sweptCells l lane) p)) ≡ mv p
       go true q =
-          ap (λ (x : Port). step forced x (digest (sampleAt block (14 * p)))) (port1 p h ∙ marked-stays forced (getD lane p 0) l p (fair p h) (digest (sampleAt block (14 * p))) (reading-signs p h) q)
+          ap (λ (x : Port). step forced x (digest (sampleAt block (sampleBytes * p)))) (port1 p h ∙ marked-stays forced (getD lane p 0) l p (fair p h) (digest (sampleAt block (sampleBytes * p))) (reading-signs p h) q)
           ∙ sym (mv-is p h)
       go false q = ap quietly (port1 p h) ∙ sym (unmarked-is p h q)
 
@@ -241,27 +242,27 @@ module _ (l block lane : List ℕ) (ready : Ready l block lane) where
           ∙ stepped (sweptCells l lane) cells1
       go false q = cells1 ∙ written-cong n after (λ p. mv p .port) l few long (λ p h. sym (ap (λ (m : Moved). m .port) (unmarked-is p h (none-left q p h))))
 
-  pub asked-long : length lane2 ≡ 48
+  pub asked-long : length lane2 ≡ mostPorts
   unfolding askedOn steppedLane
-  asked-long = choice (λ (x : List ℕ). length x ≡ 48) (sweptLeft l lane) _ (sweptLane l lane) (length-tabulate 48 _) lane1-long
+  asked-long = choice (λ (x : List ℕ). length x ≡ mostPorts) (sweptLeft l lane) _ (sweptLane l lane) (length-tabulate mostPorts _) lane1-long
 
   asked-at : (p : ℕ) → p < n → isSet (getD lane2 p 0) ≡ mv p .asks
   unfolding askedOn steppedLane
   asked-at p h = go (sweptLeft l lane) refl
     where
-      go : (b : Bool) → sweptLeft l lane ≡ b → isSet (getD (cond b (tabulate 48 (λ q. cond (ltb q n) (one (markedMove (getD (sweptLane l lane) q 0) block (sweptCells l lane) q .asks)) (getD (sweptLane l lane) q 0))) (sweptLane l lane)) p 0) ≡ mv p .asks
+      go : (b : Bool) → sweptLeft l lane ≡ b → isSet (getD (cond b (tabulate mostPorts (λ q. cond (ltb q n) (one (markedMove (getD (sweptLane l lane) q 0) block (sweptCells l lane) q .asks)) (getD (sweptLane l lane) q 0))) (sweptLane l lane)) p 0) ≡ mv p .asks
       go true q =
-          ap isSet (getD-tabulate 48 _ 0 p (omega (arith, few)))
+          ap isSet (getD-tabulate mostPorts _ 0 p (omega (arith, few)))
           ∙ ap (λ (b : Bool). isSet (cond b (one (markedMove (getD (sweptLane l lane) p 0) block (sweptCells l lane) p .asks)) (getD (sweptLane l lane) p 0))) (lt-ltb p n h)
           ∙ set-one (markedMove (getD (sweptLane l lane) p 0) block (sweptCells l lane) p .asks)
           ∙ ap (λ (m : Moved). m .asks) (move-is p h)
       go false q = lane1-set p h ∙ none-left q p h ∙ sym (ap (λ (m : Moved). m .asks) (unmarked-is p h (none-left q p h)))
 
-  pub asked-past : (p : ℕ) → n ≤ p → p < 48 → getD lane2 p 0 ≡ 0
+  pub asked-past : (p : ℕ) → n ≤ p → p < mostPorts → getD lane2 p 0 ≡ 0
   unfolding askedOn steppedLane
   asked-past p h k =
       choice (λ (x : List ℕ). getD x p 0 ≡ 0) (sweptLeft l lane) _ (sweptLane l lane)
-      (getD-tabulate 48 _ 0 p k ∙ simp (le-ltb p n h) (lane1-past p h k))
+      (getD-tabulate mostPorts _ 0 p k ∙ simp (le-ltb p n h) (lane1-past p h k))
       (lane1-past p h k)
 
   -- where it is said that no port asks, none does
@@ -287,13 +288,13 @@ module _ (l block lane : List ℕ) (ready : Ready l block lane) where
   unfolding portOf
   cells2-classes p h =
       let e : getD m2 (152 + p) 0 ≡ mv p .port .class = ap (λ (x : Port). x .class) (port2 p h) in
-      let w = step-well (portOf l p) (digest (sampleAt block (14 * p))) (digest-well (sampleAt block (14 * p))) (well .ports p h) in
-      let f : mv p .port .class ≡ step forced (portOf l p) (digest (sampleAt block (14 * p))) .port .class = ap (λ (m : Moved). m .port .class) (mv-is p h) in
+      let w = step-well (portOf l p) (digest (sampleAt block (sampleBytes * p))) (digest-well (sampleAt block (sampleBytes * p))) (well .ports p h) in
+      let f : mv p .port .class ≡ step forced (portOf l p) (digest (sampleAt block (sampleBytes * p))) .port .class = ap (λ (m : Moved). m .port .class) (mv-is p h) in
       omega (arith, w .class)
 
   opens : Opens t mv
   unfolding movedAt
-  opens p h = open-stays forced (portAt t p) (digest (sampleAt block (14 * p)))
+  opens p h = open-stays forced (portAt t p) (digest (sampleAt block (sampleBytes * p)))
 
   module _ (supply : ℕ) where
     drawn-is : drawnOn n m2 ≡ total n (λ p. draws (mv p .port))
@@ -318,7 +319,7 @@ module _ (l block lane : List ℕ) (ready : Ready l block lane) where
         go false true q r = shared
         go false false q r =
             let wants : total n (λ p. cond (mv p .asks) (mv p .port .demand .0) 0) ≡ 0 = total-zero n _ (λ p h. ap (λ (a : Bool). cond a (mv p .port .demand .0) 0) (none-asks q p h)) in
-            let fits : claimedSum 48 (rankAt t mv) (λ q. claimAt t mv q .0) ≤ supply = le-trans (claimed-at-most t mv opens few m2 lane2 port2 asked-at) (omega (arith, wants, drawn-is, ltb-false supply (drawnOn n m2) r)) in
+            let fits : claimedSum mostPorts (rankAt t mv) (λ q. claimAt t mv q .0) ≤ supply = le-trans (claimed-at-most t mv opens few m2 lane2 port2 asked-at) (omega (arith, wants, drawn-is, ltb-false supply (drawnOn n m2) r)) in
             moved-cells
             ∙ written-cong n (λ p. mv p .port) (portAfter t mv (tenths supply)) l few long (λ p h. quiet-is t mv opens few m2 lane2 port2 asked-at (tenths supply) fits p h (none-asks q p h))
 

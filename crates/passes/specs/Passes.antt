@@ -6,6 +6,7 @@ use mathlib.Core.Bool.{Bool, true, false, cond, not, _||_}
 use mathlib.Core.List.{List}
 use lib.Dec.{ltb, leb, eqb}
 use lib.ListN.{length, getD, replicate}
+use Rattle.sizes.specs.Sizes.{mostPorts, mostSupply, sampleBytes}
 use Rattle.lists.specs.Bits.{one}
 use Rattle.lists.specs.Every.{someBelow}
 use Rattle.lists.specs.Places.{tabulate}
@@ -38,7 +39,7 @@ use Rattle.passes.specs.Tick.{movedAt}
 -- the number of the refusal, 0 if nothing is refused
 unfoldable pub refusalOf : Bool → ℕ → List ℕ → ℕ → ℕ
 refusalOf well n block figure =
-    cond well (cond (eqb (length block) (14 * n)) (cond (ltb 60000 figure) 4 (cond (flagsFine n block) 0 3)) 1) 13
+    cond well (cond (eqb (length block) (sampleBytes * n)) (cond (ltb mostSupply figure) 4 (cond (flagsFine n block) 0 3)) 1) 13
 
 -- ---- the moves
 
@@ -48,7 +49,7 @@ Classes n l = (p : ℕ) → p < n → getD l (152 + p) 0 < 256
 
 -- the whole step of the port at a place
 unfoldable pub wholeMove : List ℕ → List ℕ → ℕ → Moved
-wholeMove block l p = step forced (portOf l p) (digest (sampleAt block (14 * p)))
+wholeMove block l p = step forced (portOf l p) (digest (sampleAt block (sampleBytes * p)))
 
 -- a port that is not marked has moved already
 unfoldable pub markedMove : ℕ → List ℕ → List ℕ → ℕ → Moved
@@ -59,7 +60,7 @@ steppedPort lane block l p = markedMove (getD lane p 0) block l p .port
 
 -- a lane with a 1 for each of the first n ports that asks
 unfoldable pub steppedLane : ℕ → List ℕ → List ℕ → List ℕ → List ℕ
-steppedLane n block l lane = tabulate 48 (λ p. cond (ltb p n) (one (markedMove (getD lane p 0) block l p .asks)) (getD lane p 0))
+steppedLane n block l lane = tabulate mostPorts (λ p. cond (ltb p n) (one (markedMove (getD lane p 0) block l p .asks)) (getD lane p 0))
 
 -- ---- the sharing, of ports that have moved
 
@@ -67,7 +68,7 @@ steppedLane n block l lane = tabulate 48 (λ p. cond (ltb p n) (one (markedMove 
 unfoldable pub keptOn : List ℕ → List Power → ℕ → List Bool
 keptOn ranks demands supply =
     let claims : Claims = record { ranks = ranks; demands = demands } in
-    tabulate 48 (keeps 48 (rankOf claims) (demandOf claims) supply)
+    tabulate mostPorts (keeps mostPorts (rankOf claims) (demandOf claims) supply)
 
 -- the port at a place settled, by its rank and whether its claim was kept
 unfoldable pub settledBy : List ℕ → List Bool → List ℕ → ℕ → Port
@@ -87,9 +88,9 @@ sharedBy n lane drawn supply l p =
 -- what the refusals leave to it: the cells, the block and a lane of flags
 pub record Ready (l block lane : List ℕ) : Type 0 where
   pub well : wellCells l ≡ true
-  pub sized : length block ≡ 14 * countCell l
+  pub sized : length block ≡ sampleBytes * countCell l
   pub fine : flagsFine (countCell l) block ≡ true
-  pub flags : lane ≡ flagLane (countCell l) block (replicate 48 0)
+  pub flags : lane ≡ flagLane (countCell l) block (replicate mostPorts 0)
 
 -- the cells, the lane and whether a port asks, after the quick pass and the whole steps of the ports that it marked
 unfoldable pub movedOn : List ℕ → List ℕ → List ℕ → List ℕ

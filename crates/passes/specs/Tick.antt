@@ -4,6 +4,7 @@ use mathlib.Core.Bool.{Bool, not}
 use mathlib.Core.List.{List, [], _∷_}
 use lib.Dec.{ltb, eqb}
 use lib.ListN.{length}
+use Rattle.sizes.specs.Sizes.{mostSupply, sampleBytes}
 use Rattle.lists.specs.Every.{someBelow}
 use Rattle.lists.specs.Ladder.{ladder}
 use Rattle.power.specs.Power.{forced, tenths}
@@ -20,18 +21,18 @@ use Rattle.table.specs.WellMade.{illMade}
 
 -- the port at a place below the count, after its own move on its own sample: "14 bytes a port, in port order"
 unfoldable pub movedAt : Table → List ℕ → ℕ → Moved
-movedAt t block p = step forced (portAt t p) (digest (sampleAt block (14 * p)))
+movedAt t block p = step forced (portAt t p) (digest (sampleAt block (sampleBytes * p)))
 
 -- refusal 3: "reserved bits or codes .. in sample flags"
 unfoldable pub flagsReserved : Table → List ℕ → Bool
-flagsReserved t block = someBelow (t .count) (λ p. reservedFlags (sampleAt block (14 * p) .flags))
+flagsReserved t block = someBelow (t .count) (λ p. reservedFlags (sampleAt block (sampleBytes * p) .flags))
 
 -- "13 first, in every call that takes a table. Tick: 1, 4, 3."
 abbrev pub tickRefusals : Table → List ℕ → ℕ → List (ℕ × Bool)
 tickRefusals t block figure =
     (13, illMade t)
-    ∷ (1, not (eqb (length block) (14 * t .count)))
-    ∷ (4, ltb 60000 figure)
+    ∷ (1, not (eqb (length block) (sampleBytes * t .count)))
+    ∷ (4, ltb mostSupply figure)
     ∷ (3, flagsReserved t block)
     ∷ []
 

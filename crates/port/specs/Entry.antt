@@ -1,6 +1,7 @@
 -- Document 01, "The port's move in one tick": how a counter runs, and what entering a state does.
 use Prim.Native.Nat.{ℕ, _+_, min}
 use mathlib.Core.Bool.{Bool, cond}
+use Rattle.sizes.specs.Sizes.{mostCount}
 use Rattle.power.specs.Power.{zeroPower}
 use Rattle.power.specs.declared.Power.{Power}
 use Rattle.port.specs.declared.form.Counts.{Counts}
@@ -11,7 +12,7 @@ use Rattle.port.specs.Form.{withState, withDemand, withCounts, detection
 
 -- "adds one each tick but stops at 2,000"
 unfoldable pub up : ℕ → ℕ
-up n = min (n + 1) 2000
+up n = min (n + 1) mostCount
 
 -- "consecutive ticks .. are counted .. (a tick without sets 0)"
 unfoldable pub during : Bool → ℕ → ℕ

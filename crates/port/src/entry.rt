@@ -4,17 +4,16 @@ use crate::form::Moved;
 use crate::form::Port;
 use crate::form::State;
 use power::Power;
+use sizes::MOST_COUNT;
 use status::Latches;
 ghost use mathlib.Core.Path.{_≡_};
 ghost use Rattle.port.specs.Form.{quietly, latching, asking};
 ghost use Rattle.port.specs.Entry.{up, during, countsOnEntry, demandOnEntry, enter};
 
-const MOST: u16 = 2_000;
-
 pub fn up(n: u16) -> u16
     ensures { λ r. ⌜ r ≡ up n ⌝ }
 {
-    if n < MOST { n + 1 } else { MOST }
+    if n < MOST_COUNT { n + 1 } else { MOST_COUNT }
 }
 
 pub fn during(runs: bool, n: u16) -> u16

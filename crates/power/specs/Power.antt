@@ -2,6 +2,7 @@
 use Prim.Native.Nat.{ℕ, _+_, min}
 use mathlib.Core.Bool.{Bool, cond}
 use lib.Dec.{leb, ltb, eqb}
+use Rattle.sizes.specs.Sizes.{mostSupply}
 use Rattle.power.specs.declared.Power.{Power}
 use Rattle.power.specs.declared.Sum.{Sum}
 use Rattle.power.specs.declared.Supply.{Supply}
@@ -20,7 +21,7 @@ forced = tenths 154
 
 -- refusal 4: "supply figure over 60,000"
 abbrev pub highestSupply : Power
-highestSupply = tenths 60000
+highestSupply = tenths mostSupply
 
 -- a power is at most another
 unfoldable pub atMost : Power → Power → Bool

@@ -10,6 +10,7 @@ use native.Mathlib.Omega.{arith}
 use lib.Dec.{eqb, leb, ltb}
 use lib.ListN.{length, getD}
 use borrow.Author.Tests.{lt-ltb, le-ltb, le-leb, lt-leb, ltb-true, ltb-false, leb-true, leb-false, eqb-true}
+use Rattle.sizes.specs.Sizes.{mostCount, mostPorts}
 use Rattle.lists.proofs.Tests.{and-left, and-right}
 use Rattle.power.specs.Power.{tenths, same}
 use Rattle.control.specs.declared.Enable.{Enable}
@@ -52,32 +53,32 @@ enableNo (suc (suc zero)) = Forced
 enableNo (suc (suc (suc n))) = Reserved
 
 -- a counter that has not come to its limit
-early : (m n : ℕ) → m < 2000 → not (leb (m + 1) (up n)) ≡ ltb n m
+early : (m n : ℕ) → m < mostCount → not (leb (m + 1) (up n)) ≡ ltb n m
 unfolding up
 early m n h = go (ltb n m) refl
   where
-    go : (b : Bool) → ltb n m ≡ b → not (leb (m + 1) (min (n + 1) 2000)) ≡ b
-    go true q = let x = ltb-true n m q in ap not (lt-leb (m + 1) (min (n + 1) 2000) (omega arith))
-    go false q = let x = ltb-false n m q in ap not (le-leb (m + 1) (min (n + 1) 2000) (omega arith))
+    go : (b : Bool) → ltb n m ≡ b → not (leb (m + 1) (min (n + 1) mostCount)) ≡ b
+    go true q = let x = ltb-true n m q in ap not (lt-leb (m + 1) (min (n + 1) mostCount) (omega arith))
+    go false q = let x = ltb-false n m q in ap not (le-leb (m + 1) (min (n + 1) mostCount) (omega arith))
 
 -- below 2,000 one more is one more
-wrapped-up : (n : ℕ) → n < 2000 → wrapped n ≡ up n
+wrapped-up : (n : ℕ) → n < mostCount → wrapped n ≡ up n
 unfolding up
 wrapped-up n h = omega arith
 
-counted-up : (t : Bool) (n : ℕ) → (t ≡ true → n < 2000) → counted t n ≡ cond t (up n) n
+counted-up : (t : Bool) (n : ℕ) → (t ≡ true → n < mostCount) → counted t n ≡ cond t (up n) n
 counted-up true n h = wrapped-up n (h refl)
 counted-up false n h = refl
 
-module _ (m n : ℕ) (small : n ≤ 2000) (some : 1 ≤ m) (most : m ≤ 2000) where
+module _ (m n : ℕ) (small : n ≤ mostCount) (some : 1 ≤ m) (most : m ≤ mostCount) where
   -- a run of ticks below its limit
   run-below : (b : Bool) → ltb (running b n) m ≡ not (leb m (during b n))
   unfolding during up
-  run-below true = go (leb m (min (n + 1) 2000)) refl
+  run-below true = go (leb m (min (n + 1) mostCount)) refl
     where
-      go : (b : Bool) → leb m (min (n + 1) 2000) ≡ b → ltb (wrapped n) m ≡ not b
-      go true q = let x = leb-true m (min (n + 1) 2000) q in le-ltb (wrapped n) m (omega arith)
-      go false q = let x = leb-false m (min (n + 1) 2000) q in lt-ltb (wrapped n) m (omega arith)
+      go : (b : Bool) → leb m (min (n + 1) mostCount) ≡ b → ltb (wrapped n) m ≡ not b
+      go true q = let x = leb-true m (min (n + 1) mostCount) q in le-ltb (wrapped n) m (omega arith)
+      go false q = let x = leb-false m (min (n + 1) mostCount) q in lt-ltb (wrapped n) m (omega arith)
   run-below false = simp (lt-ltb 0 m some, lt-leb m 0 some)
 
   run-during : (b : Bool) → ltb (running b n) m ≡ true → running b n ≡ during b n
@@ -87,24 +88,24 @@ module _ (m n : ℕ) (small : n ≤ 2000) (some : 1 ≤ m) (most : m ≤ 2000) w
 
 -- the counters that the pass may not find over 2,000: those of consecutive ticks
 pub record Small (c : Counts) : Type 0 where
-  pub limiting : c .limiting ≤ 2000
-  pub overload : c .overload ≤ 2000
-  pub no-load : c .«no_load» ≤ 2000
+  pub limiting : c .limiting ≤ mostCount
+  pub overload : c .overload ≤ mostCount
+  pub no-load : c .«no_load» ≤ mostCount
 
 -- what a move that stays, or does not, shows of one counter and of several
-chosen-detection : (t : Bool) (c : Counts) → (t ≡ true → c .detection < 2000) → record { counts = detectionAt (counted t (c .detection)) c; mark = cond t 0 65535 } ≡ shown (only t (detectionAt (up (c .detection)) c)) c
+chosen-detection : (t : Bool) (c : Counts) → (t ≡ true → c .detection < mostCount) → record { counts = detectionAt (counted t (c .detection)) c; mark = cond t 0 65535 } ≡ shown (only t (detectionAt (up (c .detection)) c)) c
 chosen-detection true c h = ap (λ (n : ℕ). shown (Counted (detectionAt n c)) c) (wrapped-up (c .detection) (h refl))
 chosen-detection false c h = refl
 
-chosen-backoff : (t : Bool) (c : Counts) → (t ≡ true → c .backoff < 2000) → record { counts = backoffAt (counted t (c .backoff)) c; mark = cond t 0 65535 } ≡ shown (only t (backoffAt (up (c .backoff)) c)) c
+chosen-backoff : (t : Bool) (c : Counts) → (t ≡ true → c .backoff < mostCount) → record { counts = backoffAt (counted t (c .backoff)) c; mark = cond t 0 65535 } ≡ shown (only t (backoffAt (up (c .backoff)) c)) c
 chosen-backoff true c h = ap (λ (n : ℕ). shown (Counted (backoffAt n c)) c) (wrapped-up (c .backoff) (h refl))
 chosen-backoff false c h = refl
 
-chosen-delay : (t : Bool) (c : Counts) → (t ≡ true → c .«error_delay» < 2000) → record { counts = errorDelayAt (counted t (c .«error_delay»)) c; mark = cond t 0 65535 } ≡ shown (only t (errorDelayAt (up (c .«error_delay»)) c)) c
+chosen-delay : (t : Bool) (c : Counts) → (t ≡ true → c .«error_delay» < mostCount) → record { counts = errorDelayAt (counted t (c .«error_delay»)) c; mark = cond t 0 65535 } ≡ shown (only t (errorDelayAt (up (c .«error_delay»)) c)) c
 chosen-delay true c h = ap (λ (n : ℕ). shown (Counted (errorDelayAt n c)) c) (wrapped-up (c .«error_delay») (h refl))
 chosen-delay false c h = refl
 
-chosen-class : (t : Bool) (c : Counts) → (t ≡ true → c .«power_on» < 2000) → record { counts = powerOnAt (counted t (c .«power_on»)) c; mark = cond t 0 65535 } ≡ shown (only t (powerOnAt (up (c .«power_on»)) c)) c
+chosen-class : (t : Bool) (c : Counts) → (t ≡ true → c .«power_on» < mostCount) → record { counts = powerOnAt (counted t (c .«power_on»)) c; mark = cond t 0 65535 } ≡ shown (only t (powerOnAt (up (c .«power_on»)) c)) c
 chosen-class true c h = ap (λ (n : ℕ). shown (Counted (powerOnAt n c)) c) (wrapped-up (c .«power_on») (h refl))
 chosen-class false c h = refl
 
@@ -136,7 +137,7 @@ module _ (s : Signs) (c : Counts) where
     ovl-is : calm′ ≡ true → ovl′ ≡ during (s .overload) (c .overload)
     ovl-is e = run-during 60 (c .overload) (w .overload) (omega arith) (omega arith) (s .overload) (and-right (ltb lim′ 60) (ltb ovl′ 60) e)
 
-    chosen-rise : (t : Bool) → (t ≡ true → calm′ ≡ true) → (t ≡ true → c .«power_on» < 2000)
+    chosen-rise : (t : Bool) → (t ≡ true → calm′ ≡ true) → (t ≡ true → c .«power_on» < mostCount)
         → record { counts = powerOnAt (counted t (c .«power_on»)) (limitingAt (cond t lim′ (c .limiting)) (overloadAt (cond t ovl′ (c .overload)) c)); mark = cond t 0 65535 } ≡ shown (only t (powerOnAt (up (c .«power_on»)) (stressedBy s c))) c
     chosen-rise true q h = simp (wrapped-up (c .«power_on») (h refl), lim-is (q refl), ovl-is (q refl))
     chosen-rise false q h = refl
@@ -152,7 +153,7 @@ module _ (s : Signs) (c : Counts) where
     chosen-test true q = simp (lim-is (q refl), ovl-is (q refl))
     chosen-test false q = refl
 
-    below : (n m : ℕ) (a : Bool) → m ≤ 2000 → (a && ltb n m) ≡ true → n < 2000
+    below : (n m : ℕ) (a : Bool) → m ≤ mostCount → (a && ltb n m) ≡ true → n < mostCount
     below n m a h e = let x = ltb-true n m (and-right a (ltb n m) e) in omega arith
 
     -- state by state and enable by enable
@@ -202,13 +203,13 @@ module _ (l lane : List ℕ) (e : sweepable l lane ≡ true) where
   unfolding sweepable
   sweepable-cells = eqb-true _ _ (and-left (eqb (length l) cellsLong) _ e)
 
-  pub sweepable-lane : length lane ≡ 48
+  pub sweepable-lane : length lane ≡ mostPorts
   unfolding sweepable
-  sweepable-lane = eqb-true _ _ (and-left (eqb (length lane) 48) _ (and-right (eqb (length l) cellsLong) _ e))
+  sweepable-lane = eqb-true _ _ (and-left (eqb (length lane) mostPorts) _ (and-right (eqb (length l) cellsLong) _ e))
 
-  pub sweepable-few : countCell l ≤ 48
+  pub sweepable-few : countCell l ≤ mostPorts
   unfolding sweepable
-  sweepable-few = leb-true _ _ (and-right (eqb (length lane) 48) _ (and-right (eqb (length l) cellsLong) _ e))
+  sweepable-few = leb-true _ _ (and-right (eqb (length lane) mostPorts) _ (and-right (eqb (length l) cellsLong) _ e))
 
 module _ (lane l : List ℕ) where
   pub looked-long : (n : ℕ) → length (lookedCells n lane l) ≡ length l
@@ -217,20 +218,20 @@ module _ (lane l : List ℕ) where
   looked-long (suc n) = length-writes (countFields (lookedAt (getD lane n 0) l n .counts)) 5 n (lookedCells n lane l) ∙ looked-long n
 
   -- a place whose turn is not yet is as it was
-  looked-cell : (n p g : ℕ) → n ≤ p → p < 48 → getD (lookedCells n lane l) (8 + 48 * g + p) 0 ≡ getD l (8 + 48 * g + p) 0
+  looked-cell : (n p g : ℕ) → n ≤ p → p < mostPorts → getD (lookedCells n lane l) (8 + mostPorts * g + p) 0 ≡ getD l (8 + mostPorts * g + p) 0
   unfolding lookedCells withCountCells
   looked-cell zero p g h k = refl
   looked-cell (suc n) p g h k =
-      writes-other (countFields (lookedAt (getD lane n 0) l n .counts)) 5 n (lookedCells n lane l) (8 + 48 * g + p) (λ f e m o. omega arith)
+      writes-other (countFields (lookedAt (getD lane n 0) l n .counts)) 5 n (lookedCells n lane l) (8 + mostPorts * g + p) (λ f e m o. omega arith)
       ∙ looked-cell n p g (omega arith) k
 
-  pub looked-turn : (n : ℕ) (flags : ℕ) → n < 48 → lookedAt flags (lookedCells n lane l) n ≡ lookedAt flags l n
+  pub looked-turn : (n : ℕ) (flags : ℕ) → n < mostPorts → lookedAt flags (lookedCells n lane l) n ≡ lookedAt flags l n
   unfolding lookedAt countsOf
   looked-turn n flags h =
-      let at : (g : ℕ) → getD (lookedCells n lane l) (8 + 48 * g + n) 0 ≡ getD l (8 + 48 * g + n) 0 = λ g. looked-cell n n g (le-refl n) h in
+      let at : (g : ℕ) → getD (lookedCells n lane l) (8 + mostPorts * g + n) 0 ≡ getD l (8 + mostPorts * g + n) 0 = λ g. looked-cell n n g (le-refl n) h in
       simp (at 0, at 1, at 2, at 5, at 6, at 7, at 8, at 9, at 10, at 11)
 
-  pub looked-more : (n : ℕ) (m k : List ℕ) → m ≡ lookedCells n lane l → n < 48 → k ≡ withCountCells n (lookedAt (getD lane n 0) m n .counts) m → k ≡ lookedCells (n + 1) lane l
+  pub looked-more : (n : ℕ) (m k : List ℕ) → m ≡ lookedCells n lane l → n < mostPorts → k ≡ withCountCells n (lookedAt (getD lane n 0) m n .counts) m → k ≡ lookedCells (n + 1) lane l
   unfolding lookedCells
   looked-more n m k e h f =
       f ∙ ap (λ (x : List ℕ). withCountCells n (lookedAt (getD lane n 0) x n .counts) x) e

@@ -9,6 +9,7 @@ use native.Mathlib.Numerals.{add-one}
 use native.Mathlib.Omega.{arith}
 use lib.Dec.{eqb}
 use lib.ListN.{length, getD}
+use Rattle.sizes.specs.Sizes.{mostPorts}
 use Rattle.lists.specs.Bits.{choose}
 use Rattle.lists.proofs.Bits.{field-low}
 use Rattle.power.specs.Power.{tenths}
@@ -65,7 +66,7 @@ looked-port flags l p f =
 unfoldable pub swept : ℕ → List ℕ → ℕ → Port
 swept flags l p = withCounts (glanced (quickly (portOf l p) (signsBy flags)) (portOf l p .counts)) (portOf l p)
 
-module _ (lane l : List ℕ) (n : ℕ) (few : n ≤ 48) (long : length l ≡ cellsLong) (fair : (p : ℕ) → p < n → Fair l p) where
+module _ (lane l : List ℕ) (n : ℕ) (few : n ≤ mostPorts) (long : length l ≡ cellsLong) (fair : (p : ℕ) → p < n → Fair l p) where
   abbrev after : ℕ → Port
   after p = swept (getD lane p 0) l p
 

@@ -7,6 +7,7 @@ use mathlib.Core.Bool.{Bool, cond, not, _&&_, _||_}
 use mathlib.Core.List.{List}
 use lib.Dec.{eqb, leb, ltb}
 use lib.ListN.{length, getD}
+use Rattle.sizes.specs.Sizes.{mostPorts}
 use Rattle.lists.specs.Every.{someBelow}
 use Rattle.lists.specs.Places.{tabulate}
 use Rattle.port.specs.declared.form.Counts.{Counts}
@@ -121,11 +122,11 @@ lookedCells (suc n) lane l = withCountCells n (lookedAt (getD lane n 0) l n .cou
 
 -- and the lane: a mark for each of them, and what it held for the others
 unfoldable pub lookedLane : ℕ → List ℕ → List ℕ → List ℕ
-lookedLane n lane l = tabulate 48 (λ p. cond (ltb p n) (lookedAt (getD lane p 0) l p .mark) (getD lane p 0))
+lookedLane n lane l = tabulate mostPorts (λ p. cond (ltb p n) (lookedAt (getD lane p 0) l p .mark) (getD lane p 0))
 
 -- as many cells as a table has, a number for each of its places, and no more ports than places
 unfoldable pub sweepable : List ℕ → List ℕ → Bool
-sweepable l lane = eqb (length l) cellsLong && (eqb (length lane) 48 && leb (countCell l) 48)
+sweepable l lane = eqb (length l) cellsLong && (eqb (length lane) mostPorts && leb (countCell l) mostPorts)
 
 unfoldable pub sweptCells : List ℕ → List ℕ → List ℕ
 sweptCells l lane = cond (sweepable l lane) (lookedCells (countCell l) lane l) l

@@ -2,13 +2,17 @@
 // step.
 use diagram::limits;
 use port::form::Counts;
+use sizes::CELLS;
+use sizes::PORTS;
+use sizes::PORTS_16;
 ghost use mathlib.Core.Path.{_≡_};
 ghost use Prim.Native.Nat.{_%_, _<_, _≤_};
 ghost use mathlib.Core.Bool.{cond, _||_};
 ghost use lib.Dec.{ltb};
 ghost use lib.ListN.{length, getD};
+ghost use Rattle.sizes.specs.Sizes.{mostPorts};
 ghost use Rattle.lists.specs.Every.{someBelow};
-ghost use Rattle.cells.specs.Cells.{countsOf};
+ghost use Rattle.cells.specs.Cells.{countsOf, cellsLong};
 ghost use Rattle.cells.specs.Writes.{withCountCells};
 ghost use Rattle.quick.specs.Sweep.{counted, running, signsBy, looked, lookedAt, isMarked, lookedCells, lookedLane, sweepable, sweptCells, sweptLane, sweptLeft};
 
@@ -119,7 +123,7 @@ fn look_at(state: u16, control: u16, demand: u16, flags: u16, counts: Counts) ->
 }
 
 fn counts_at(cells: &[u16], p: usize) -> Counts
-    requires { ⌜ (length (now cells) ≡ 728) × (p < 48) ⌝ }
+    requires { ⌜ (length (now cells) ≡ cellsLong) × (p < mostPorts) ⌝ }
     ensures { λ r. ⌜ r ≡ countsOf (now (cells .entry)) p ⌝ }
 {
     Counts {
@@ -134,7 +138,7 @@ fn counts_at(cells: &[u16], p: usize) -> Counts
 }
 
 fn put_counts(cells: &mut [u16], p: usize, counts: Counts)
-    requires { ⌜ (length (now cells) ≡ 728) × (p < 48) ⌝ }
+    requires { ⌜ (length (now cells) ≡ cellsLong) × (p < mostPorts) ⌝ }
     ensures { λ _. ⌜ now (cells .exit) ≡ withCountCells p counts (now (cells .entry)) ⌝ }
 {
     cells[248 + p] = counts.detection;
@@ -148,7 +152,7 @@ fn put_counts(cells: &mut [u16], p: usize, counts: Counts)
 
 // A port's counters are moved on where they stand; its mark is answered.
 fn sweep_port(cells: &mut [u16], p: usize, flags: u16) -> u16
-    requires { ⌜ (length (now cells) ≡ 728) × (p < 48) ⌝ }
+    requires { ⌜ (length (now cells) ≡ cellsLong) × (p < mostPorts) ⌝ }
     ensures { λ r. ⌜ r ≡ lookedAt flags (now (cells .entry)) p .mark ⌝ }
     ensures { λ _. ⌜ now (cells .exit) ≡ withCountCells p (lookedAt flags (now (cells .entry)) p .counts) (now (cells .entry)) ⌝ }
 {
@@ -168,18 +172,18 @@ fn greater(a: u16, b: u16) -> u16
 fn is_sweepable(cells: &[u16], lane: &[u16]) -> bool
     ensures { λ r. ⌜ r ≡ sweepable (now (cells .entry)) (now (lane .entry)) ⌝ }
 {
-    if cells.len() != 728 {
+    if cells.len() != CELLS {
         return false;
     }
-    if lane.len() != 48 {
+    if lane.len() != PORTS {
         return false;
     }
-    cells[0] <= 48
+    cells[0] <= PORTS_16
 }
 
 // The ports below n, one after the other. Is some port marked?
 fn sweep_all(cells: &mut [u16], n: usize, lane: &mut [u16]) -> bool
-    requires { ⌜ (length (now cells) ≡ 728) × (n ≤ 48) × (length (now lane) ≡ 48) ⌝ }
+    requires { ⌜ (length (now cells) ≡ cellsLong) × (n ≤ mostPorts) × (length (now lane) ≡ mostPorts) ⌝ }
     ensures { λ r. ⌜ r ≡ someBelow n (λ p. isMarked (getD (now (lane .entry)) p 0) (now (cells .entry)) p) ⌝ }
     ensures { λ _. ⌜ now (cells .exit) ≡ lookedCells n (now (lane .entry)) (now (cells .entry)) ⌝ }
     ensures { λ _. ⌜ now (lane .exit) ≡ lookedLane n (now (lane .entry)) (now (cells .entry)) ⌝ }

@@ -11,6 +11,7 @@ use lib.Dec.{leb, ltb}
 use lib.ListN.{length, getD, set, replicate, length-set, length-replicate, getD-replicate}
 use lib.Seq.{getD-set-same, getD-set-other}
 use borrow.Author.Tests.{le-leb, lt-leb, leb-true, lt-ltb, le-ltb, ltb-true, ne-eqb}
+use Rattle.sizes.specs.Sizes.{mostPorts}
 use Rattle.lists.specs.Places.{tabulate}
 use Rattle.lists.proofs.Places.{side, length-tabulate, getD-tabulate}
 use Rattle.lists.proofs.Tests.{and-left, and-right}
@@ -22,9 +23,9 @@ use Rattle.cells.proofs.Laws.{is-written}
 use Rattle.replies.specs.Calls.{coldPort, coldTable}
 use Rattle.replies.specs.Cold.{coldCell}
 
-cold-at : (n p : ℕ) → p < 48 → portAt (coldTable n) p ≡ coldPort
+cold-at : (n p : ℕ) → p < mostPorts → portAt (coldTable n) p ≡ coldPort
 unfolding portAt coldTable
-cold-at n p h = getD-replicate 48 p coldPort noPort h
+cold-at n p h = getD-replicate mostPorts p coldPort noPort h
 
 -- a cell that is neither the count nor a control word
 none : (n k : ℕ) → 1 ≤ k → (leb 56 k && ltb k 104) ≡ false → coldCell n k ≡ 0
@@ -32,13 +33,13 @@ unfolding coldCell
 none n k h e = simp (ne-eqb k 0 (λ z. omega arith), e)
 
 -- a port's cells are those of a cold port
-cold-field : (n p g : ℕ) → p < 48 → g < 12 → coldCell n (8 + 48 * g + p) ≡ getD (fieldsOf coldPort) g 0
+cold-field : (n p g : ℕ) → p < mostPorts → g < 12 → coldCell n (8 + mostPorts * g + p) ≡ getD (fieldsOf coldPort) g 0
 unfolding coldCell latchByte
-cold-field n p zero hp hg = none n (8 + 48 * 0 + p) (omega arith) (simp (lt-leb 56 (8 + 48 * 0 + p) (omega arith)))
+cold-field n p zero hp hg = none n (8 + mostPorts * 0 + p) (omega arith) (simp (lt-leb 56 (8 + mostPorts * 0 + p) (omega arith)))
 cold-field n p (suc zero) hp hg =
-    simp (ne-eqb (8 + 48 * 1 + p) 0 (λ z. omega arith), le-leb 56 (8 + 48 * 1 + p) (omega arith), lt-ltb (8 + 48 * 1 + p) 104 (omega arith))
+    simp (ne-eqb (8 + mostPorts * 1 + p) 0 (λ z. omega arith), le-leb 56 (8 + mostPorts * 1 + p) (omega arith), lt-ltb (8 + mostPorts * 1 + p) 104 (omega arith))
 cold-field n p (suc (suc g)) hp hg =
-    none n (8 + 48 * suc (suc g) + p) (omega arith) (simp (le-ltb (8 + 48 * suc (suc g) + p) 104 (omega arith), and-false))
+    none n (8 + mostPorts * suc (suc g) + p) (omega arith) (simp (le-ltb (8 + mostPorts * suc (suc g) + p) 104 (omega arith), and-false))
     ∙ sym (getD-replicate 10 g 0 0 (omega arith))
 
 -- the head, and what is nobody's
@@ -58,7 +59,7 @@ base-rest n k h b =
     ∙ getD-replicate cellsLong k 0 0 b)
     (eq-or-lt-of-le {n = 1} {m = k} h)
 
-cold-else : (n k : ℕ) → k < cellsLong → isOfPort 48 k ≡ false → coldCell n k ≡ getD (base n) k 0
+cold-else : (n k : ℕ) → k < cellsLong → isOfPort mostPorts k ≡ false → coldCell n k ≡ getD (base n) k 0
 unfolding coldCell isOfPort
 cold-else n k b e =
     ⊎-elim
@@ -72,16 +73,16 @@ cold-else n k b e =
     apart true q =
         let a = leb-true 56 k (and-left (leb 56 k) (ltb k 104) q) in
         let c = ltb-true k 104 (and-right (leb 56 k) (ltb k 104) q) in
-        absurd (false≢true (sym e ∙ simp (le-leb 8 k (omega arith), lt-ltb k 584 (omega arith), lt-ltb ((k - 8) % 48) 48 (omega arith))))
+        absurd (false≢true (sym e ∙ simp (le-leb 8 k (omega arith), lt-ltb k 584 (omega arith), lt-ltb ((k - 8) % mostPorts) mostPorts (omega arith))))
     apart false q = refl
 
 pub cold-cells : (n : ℕ) → tabulate cellsLong (coldCell n) ≡ cellsOf (coldTable n)
 unfolding cellsOf coldTable
 cold-cells n =
-    is-written 48 (portAt (coldTable n)) (base n) (tabulate cellsLong (coldCell n)) (omega arith) (omega (arith, base-long n))
+    is-written mostPorts (portAt (coldTable n)) (base n) (tabulate cellsLong (coldCell n)) (omega arith) (omega (arith, base-long n))
     (length-tabulate cellsLong (coldCell n) ∙ sym (base-long n))
     (λ p g hp hg.
-    getD-tabulate cellsLong (coldCell n) 0 (8 + 48 * g + p) (omega arith) ∙ cold-field n p g hp hg
+    getD-tabulate cellsLong (coldCell n) 0 (8 + mostPorts * g + p) (omega arith) ∙ cold-field n p g hp hg
     ∙ ap (λ (x : Port). getD (fieldsOf x) g 0) (sym (cold-at n p hp)))
     (λ k h e.
     let b : k < cellsLong = omega (arith, base-long n) in

@@ -8,6 +8,7 @@ use native.Mathlib.Omega.{arith}
 use lib.Dec.{eqb, leb}
 use lib.ListN.{getD, set, drop}
 use borrow.Author.Tests.{le-leb, lt-leb, eqb-true, eqb-false}
+use Rattle.sizes.specs.Sizes.{mostPorts}
 use Rattle.lists.specs.Ladder.{ladder}
 use Rattle.power.specs.Power.{tenths}
 use Rattle.power.specs.declared.Power.{Power}
@@ -123,7 +124,7 @@ module _ (l : List ℕ) (e : wellCells l ≡ true) (p : ℕ) (h : p < countCell 
 
 -- ---- "all closed ports' demands with the change"
 
-pub draws-with : (l : List ℕ) (d : Power) (p q : ℕ) → q < 48
+pub draws-with : (l : List ℕ) (d : Power) (p q : ℕ) → q < mostPorts
     → draws (portAt (granting d p (tableOf l)) q) ≡ cond (closed (stateOf (getD l (8 + q) 0))) (cond (eqb q p) (d .0) (getD l (104 + q) 0)) 0
 unfolding draws demanding portOf
 draws-with l d p q h = go (eqb q p) refl

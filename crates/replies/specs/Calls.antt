@@ -4,6 +4,7 @@ use mathlib.Core.Bool.{Bool, cond, not, _&&_, _||_}
 use mathlib.Core.List.{List, [], _∷_}
 use lib.Dec.{leb, ltb, eqb}
 use lib.ListN.{replicate}
+use Rattle.sizes.specs.Sizes.{mostPorts}
 use Rattle.lists.specs.Bits.{field}
 use Rattle.lists.specs.Ladder.{ladder}
 use Rattle.power.specs.Power.{zeroPower, over, fits, sumOf}
@@ -28,11 +29,11 @@ coldPort = record { state = Disabled; class = 0; control = 0x0004; demand = zero
 
 -- "Places at or past the port count are filled alike"
 unfoldable pub coldTable : ℕ → Table
-coldTable count = record { ports = replicate 48 coldPort; count = count; supply = zeroPower }
+coldTable count = record { ports = replicate mostPorts coldPort; count = count; supply = zeroPower }
 
 -- refusal 2, "a cold start asked for 0 or over 48 ports"
 abbrev pub coldRefusals : ℕ → List (ℕ × Bool)
-coldRefusals n = (2, eqb n 0 || ltb 48 n) ∷ []
+coldRefusals n = (2, eqb n 0 || ltb mostPorts n) ∷ []
 
 -- beside the number stands a table of no ports, which every call refuses with 13
 unfoldable pub coldStart : ℕ → Told

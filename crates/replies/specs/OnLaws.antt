@@ -5,6 +5,7 @@ use mathlib.Core.Path.{_≡_}
 use mathlib.Core.Bool.{true}
 use mathlib.Core.List.{List}
 use lib.ListN.{length, getD, drop}
+use Rattle.sizes.specs.Sizes.{mostPorts}
 use Rattle.lists.specs.Ladder.{ladder}
 use Rattle.table.specs.declared.form.Told.{Told}
 use Rattle.table.specs.Form.{portAt, withPort, done, refuse}
@@ -16,7 +17,7 @@ use Rattle.replies.specs.Calls.{withControl, controlRefusals, levelOf, g
 pub record AtPort (l : List ℕ) (p : ℕ) : Type 0 where
   pub well : wellCells l ≡ true
   pub below : p < countCell l
-  pub few : countCell l ≤ 48
+  pub few : countCell l ≤ mostPorts
   pub long : length l ≡ cellsLong
   pub class : getD l (152 + p) 0 ≤ 4
 

@@ -4,6 +4,7 @@ use mathlib.Core.Bool.{Bool, cond}
 use mathlib.Core.List.{List}
 use lib.Dec.{ltb}
 use lib.ListN.{length, getD}
+use Rattle.sizes.specs.Sizes.{sampleBytes}
 use Rattle.lists.specs.Bits.{bit, above}
 use Rattle.sample.specs.declared.Sample.{Sample}
 use Rattle.sample.specs.declared.Sampled.{Sampled}
@@ -29,7 +30,7 @@ sampleAt bytes at =
 
 -- "14 bytes a port, in port order": the sample of a port whose fourteen bytes the block has
 unfoldable pub sampleOf : List ℕ → ℕ → Sampled
-sampleOf block port = cond (ltb port (length block / 14)) (Is (sampleAt block (14 * port))) Cut
+sampleOf block port = cond (ltb port (length block / sampleBytes)) (Is (sampleAt block (sampleBytes * port))) Cut
 
 -- "15:6 zero" is broken
 unfoldable pub reservedFlags : ℕ → Bool

@@ -1,4 +1,5 @@
 // A port's sample: 14 bytes of a block, and the six flags of its last number.
+use sizes::SAMPLE;
 ghost use mathlib.Core.Path.{_≡_};
 ghost use Prim.Native.Nat.{_+_, _<_};
 ghost use lib.ListN.{length};
@@ -31,8 +32,8 @@ fn word_at(block: &[u8], at: usize) -> u16
 pub fn sample_of(block: &[u8], port: usize) -> Sampled
     ensures { λ r. ⌜ r ≡ sampleOf (now (block .entry)) port ⌝ }
 {
-    if port < block.len() / 14 {
-        let at = 14 * port;
+    if port < block.len() / SAMPLE {
+        let at = SAMPLE * port;
         Sampled::Is(Sample {
             v1: word_at(block, at),
             v2: word_at(block, at + 2),

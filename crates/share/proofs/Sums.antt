@@ -12,6 +12,7 @@ use lib.Dec.{ltb, leb, eqb}
 use lib.ListN.{length, getD, set, length-set}
 use lib.Seq.{getD-set-same, getD-set-other}
 use borrow.Author.Tests.{lt-ltb, le-ltb, le-leb, lt-leb, eq-eqb, ne-eqb, ltb-true, eqb-true, eqb-false}
+use Rattle.sizes.specs.Sizes.{mostPorts}
 use Rattle.lists.proofs.Tests.{passed}
 use Rattle.lists.specs.Total.{total}
 use Rattle.lists.proofs.Total.{total-next, total-cong, total-plus, total-bound}
@@ -43,7 +44,7 @@ at-most true d m h = h
 at-most false d m h = omega arith
 
 -- no sum over the places reaches half the end of its type
-pub sum-small : (n : ℕ) (demand : ℕ → ℕ) (f : ℕ → Bool) → n ≤ 48 → ((p : ℕ) → p < n → demand p < 2 ^ 16)
+pub sum-small : (n : ℕ) (demand : ℕ → ℕ) (f : ℕ → Bool) → n ≤ mostPorts → ((p : ℕ) → p < n → demand p < 2 ^ 16)
     → sumWhere n demand f ≤ 3145680
 unfolding sumWhere
 sum-small n demand f h s =
@@ -85,13 +86,13 @@ pub slot-none : (rank demand : ℕ → ℕ) (j : ℕ) → ofSlot 0 rank demand j
 unfolding ofSlot
 slot-none rank demand j = sum-none 0 demand (λ q. eqb (slotOf (rank q)) j) (λ p l. absurd (not-suc-le-zero l))
 
-pub slot-small : (n : ℕ) (rank demand : ℕ → ℕ) (j : ℕ) → n ≤ 48 → Small demand → ofSlot n rank demand j ≤ 3145680
+pub slot-small : (n : ℕ) (rank demand : ℕ → ℕ) (j : ℕ) → n ≤ mostPorts → Small demand → ofSlot n rank demand j ≤ 3145680
 unfolding ofSlot
 slot-small n rank demand j h s = sum-small n demand (λ q. eqb (slotOf (rank q)) j) h (λ p l. s p (omega arith))
 
-pub lower-small : (rank demand : ℕ → ℕ) (j : ℕ) → Small demand → ofLower 48 rank demand j ≤ 3145680
+pub lower-small : (rank demand : ℕ → ℕ) (j : ℕ) → Small demand → ofLower mostPorts rank demand j ≤ 3145680
 unfolding ofLower
-lower-small rank demand j s = sum-small 48 demand (λ q. ltb (slotOf (rank q)) j) (le-refl 48) s
+lower-small rank demand j s = sum-small mostPorts demand (λ q. ltb (slotOf (rank q)) j) (le-refl mostPorts) s
 
 lower-none : (n : ℕ) (rank demand : ℕ → ℕ) → ofLower n rank demand 0 ≡ 0
 unfolding ofLower
@@ -118,33 +119,33 @@ lower-more n rank demand k =
     ∙ total-plus n (λ q. cond (ltb (slotOf (rank q)) k) (demand q) 0) (λ q. cond (eqb (slotOf (rank q)) k) (demand q) 0)
 
 -- the sums of the slots before k in one are the demands of the ranks before k
-pub joined-lower : (rank demand : ℕ → ℕ) → Small demand → (sums : List Sum) → sums ≡ tabulate 7 (λ k. sumOf (ofSlot 48 rank demand k))
-    → (k : ℕ) → k ≤ 7 → joined sums k ≡ sumOf (ofLower 48 rank demand k)
+pub joined-lower : (rank demand : ℕ → ℕ) → Small demand → (sums : List Sum) → sums ≡ tabulate 7 (λ k. sumOf (ofSlot mostPorts rank demand k))
+    → (k : ℕ) → k ≤ 7 → joined sums k ≡ sumOf (ofLower mostPorts rank demand k)
 unfolding joined
-joined-lower rank demand s sums e zero h = ap sumOf (sym (lower-none 48 rank demand))
+joined-lower rank demand s sums e zero h = ap sumOf (sym (lower-none mostPorts rank demand))
 joined-lower rank demand s sums e (suc k) h =
     ap₂ join (joined-lower rank demand s sums e k (omega arith))
-    (ap (λ l. getD l k (sumOf 0)) e ∙ getD-tabulate 7 (λ k. sumOf (ofSlot 48 rank demand k)) (sumOf 0) k h)
-    ∙ join-exact (ofLower 48 rank demand k) (ofSlot 48 rank demand k)
-    (omega (arith, lower-small rank demand k s, slot-small 48 rank demand k (le-refl 48) s))
-    ∙ ap sumOf (sym (lower-more 48 rank demand k))
+    (ap (λ l. getD l k (sumOf 0)) e ∙ getD-tabulate 7 (λ k. sumOf (ofSlot mostPorts rank demand k)) (sumOf 0) k h)
+    ∙ join-exact (ofLower mostPorts rank demand k) (ofSlot mostPorts rank demand k)
+    (omega (arith, lower-small rank demand k s, slot-small mostPorts rank demand k (le-refl mostPorts) s))
+    ∙ ap sumOf (sym (lower-more mostPorts rank demand k))
 
 -- what the sum of slot k has come to before place p, in its turn
 abbrev pub inLine : (ℕ → ℕ) → (ℕ → ℕ) → ℕ → ℕ → ℕ
-inLine rank demand p k = ofLower 48 rank demand k + ofSlot p rank demand k
+inLine rank demand p k = ofLower mostPorts rank demand k + ofSlot p rank demand k
 
-pub line-starts : (rank demand : ℕ → ℕ) → Small demand → (sums : List Sum) → sums ≡ tabulate 7 (λ k. sumOf (ofSlot 48 rank demand k))
+pub line-starts : (rank demand : ℕ → ℕ) → Small demand → (sums : List Sum) → sums ≡ tabulate 7 (λ k. sumOf (ofSlot mostPorts rank demand k))
     → tabulate 7 (joined sums) ≡ tabulate 7 (λ k. sumOf (inLine rank demand 0 k))
 line-starts rank demand s sums e =
     tabulate-cong 7 (joined sums) (λ k. sumOf (inLine rank demand 0 k))
     (λ k l. joined-lower rank demand s sums e k (omega arith)
-    ∙ ap sumOf (sym (ap (λ x. ofLower 48 rank demand k + x) (slot-none rank demand k) ∙ add-zero _)))
+    ∙ ap sumOf (sym (ap (λ x. ofLower mostPorts rank demand k + x) (slot-none rank demand k) ∙ add-zero _)))
 
 pub line-more : (rank demand : ℕ → ℕ) (p k j : ℕ) → k ≡ slotOf (rank p)
     → inLine rank demand (p + 1) j ≡ inLine rank demand p j + cond (eqb k j) (demand p) 0
 line-more rank demand p k j e =
-    ap (λ x. ofLower 48 rank demand j + x) (slot-more p rank demand j ∙ ap (λ s. ofSlot p rank demand j + cond (eqb s j) (demand p) 0) (sym e))
-    ∙ sym (add-assoc (ofLower 48 rank demand j) (ofSlot p rank demand j) (cond (eqb k j) (demand p) 0))
+    ap (λ x. ofLower mostPorts rank demand j + x) (slot-more p rank demand j ∙ ap (λ s. ofSlot p rank demand j + cond (eqb s j) (demand p) 0) (sym e))
+    ∙ sym (add-assoc (ofLower mostPorts rank demand j) (ofSlot p rank demand j) (cond (eqb k j) (demand p) 0))
 
 -- the places up to p, among n
 total-cut : (n : ℕ) (f : ℕ → ℕ) (p : ℕ) → p < n → total n (λ q. cond (leb q p) (f q) 0) ≡ total (suc p) f

@@ -4,6 +4,7 @@ use mathlib.Core.Bool.{Bool, cond, _&&_}
 use mathlib.Core.List.{List}
 use lib.Dec.{ltb, eqb}
 use lib.ListN.{getD}
+use Rattle.sizes.specs.Sizes.{mostPorts}
 use Rattle.power.specs.Power.{sumOf, join, fits}
 use Rattle.power.specs.declared.Power.{Power}
 use Rattle.power.specs.declared.Sum.{Sum}
@@ -11,7 +12,7 @@ use Rattle.share.specs.Share.{noClaim, sumWhere}
 
 -- each demand is a power's number, so that no sum over the places reaches the end of its type
 abbrev pub Small : (ℕ → ℕ) → Type 0
-Small demand = (p : ℕ) → p < 48 → demand p < 2 ^ 16
+Small demand = (p : ℕ) → p < mostPorts → demand p < 2 ^ 16
 
 -- a place is kept if it claims and its sum is within the supply
 unfoldable pub within : Sum → ℕ → Power → Bool

@@ -1,8 +1,10 @@
 // The sharing of one supply. It knows claims only, a rank and a demand for each place, and no port.
 use power::Power;
 use power::Sum;
+use sizes::PORTS;
 ghost use mathlib.Core.Path.{_≡_};
 ghost use Prim.Native.Nat.{_<_, _^_};
+ghost use Rattle.sizes.specs.Sizes.{mostPorts};
 ghost use Rattle.lists.specs.Places.{tabulate};
 ghost use Rattle.power.specs.Power.{sumOf};
 ghost use Rattle.share.specs.Share.{keeps};
@@ -14,8 +16,8 @@ pub const NO_CLAIM: u8 = 6;
 
 // For each place its rank, of which 0 comes first, and its demand. A place with another rank than 0 to 5 claims nothing.
 pub struct Claims {
-    pub ranks: [u8; 48],
-    pub demands: [Power; 48],
+    pub ranks: [u8; PORTS],
+    pub demands: [Power; PORTS],
 }
 
 // A demand's number fits its type: of this and of the loop below a compiler leaves nothing.
@@ -44,7 +46,7 @@ fn slot(rank: u8) -> usize
 
 fn rank_sums(claims: Claims) -> [Sum; 7]
     requires { ⌜ Small (demandOf claims) ⌝ }
-    ensures { λ r. ⌜ r ≡ tabulate 7 (λ k. sumOf (ofSlot 48 (rankOf claims) (demandOf claims) k)) ⌝ }
+    ensures { λ r. ⌜ r ≡ tabulate 7 (λ k. sumOf (ofSlot mostPorts (rankOf claims) (demandOf claims) k)) ⌝ }
 {
     let mut sums = [Sum::ZERO; 7];
     for p in 0..48 {
@@ -81,12 +83,12 @@ fn within(sum: Sum, rank: u8, supply: Power) -> bool
 }
 
 // A shed claim's demand stays in the sum of its rank, so that no smaller claim after it is kept.
-fn in_turn(claims: Claims, supply: Power) -> [bool; 48]
+fn in_turn(claims: Claims, supply: Power) -> [bool; PORTS]
     requires { ⌜ Small (demandOf claims) ⌝ }
-    ensures { λ r. ⌜ r ≡ tabulate 48 (keeps 48 (rankOf claims) (demandOf claims) (supply .0)) ⌝ }
+    ensures { λ r. ⌜ r ≡ tabulate mostPorts (keeps mostPorts (rankOf claims) (demandOf claims) (supply .0)) ⌝ }
 {
     let mut sums = starts(rank_sums(claims));
-    let mut kept = [false; 48];
+    let mut kept = [false; PORTS];
     for p in 0..48 {
         let rank = claims.ranks[p];
         let demand = claims.demands[p];
@@ -100,8 +102,8 @@ fn in_turn(claims: Claims, supply: Power) -> [bool; 48]
 }
 
 // The places that keep their claim.
-pub fn kept(claims: Claims, supply: Power) -> [bool; 48]
-    ensures { λ r. ⌜ r ≡ tabulate 48 (keeps 48 (rankOf claims) (demandOf claims) (supply .0)) ⌝ }
+pub fn kept(claims: Claims, supply: Power) -> [bool; PORTS]
+    ensures { λ r. ⌜ r ≡ tabulate mostPorts (keeps mostPorts (rankOf claims) (demandOf claims) (supply .0)) ⌝ }
 {
     all_told(claims);
     in_turn(claims, supply)

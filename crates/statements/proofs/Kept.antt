@@ -9,6 +9,7 @@ use mathlib.Core.Logic.{_⊎_, inl, inr, ⊎-elim}
 use native.Mathlib.Omega.{arith}
 use lib.ListN.{getD, set, getD-replicate}
 use borrow.Author.Tests.{le-leb}
+use Rattle.sizes.specs.Sizes.{mostPorts, sampleBytes}
 use Rattle.lists.specs.Bits.{field, above}
 use Rattle.lists.specs.Table.{some}
 use Rattle.power.specs.Power.{forced, atMost, highestSupply}
@@ -35,13 +36,13 @@ pub tick-well : (t : Table) (block : List ℕ) (supply : Power) → wellMade t �
 unfolding movedAt
 tick-well t block supply e s =
     after-well t (movedAt t block) supply
-    (λ p l. step-well (portAt t p) (digest (sampleAt block (14 * p))) (digest-well (sampleAt block (14 * p))) (table-of t e .ports p l))
+    (λ p l. step-well (portAt t p) (digest (sampleAt block (sampleBytes * p))) (digest-well (sampleAt block (sampleBytes * p))) (table-of t e .ports p l))
     e s
 
 -- the access switch's move closes no port by itself
 pub opens : (t : Table) (block : List ℕ) (p : ℕ) → closed (portAt t p .state) ≡ false → closed (movedAt t block p .port .state) ≡ false
 unfolding movedAt
-opens t block p = open-stays forced (portAt t p) (digest (sampleAt block (14 * p)))
+opens t block p = open-stays forced (portAt t p) (digest (sampleAt block (sampleBytes * p)))
 
 -- ---- the calls that change one port
 -- after a store, what stands at a place is what was stored or what was there
@@ -87,13 +88,13 @@ demanding-well d p t e l g =
     (with-port-well p (demanding d (portAt t p)) t x (record { counts = v .counts; class = v .class; control = v .control; demand = g }))
 
 -- ---- the cold start
-pub cold-well : (n : ℕ) → 1 ≤ n → n ≤ 48 → wellMade (coldTable n) ≡ true
+pub cold-well : (n : ℕ) → 1 ≤ n → n ≤ mostPorts → wellMade (coldTable n) ≡ true
 unfolding coldTable portAt wellPort illPort refused isDemand some atMost field above
 cold-well n h k =
     table-test (coldTable n)
     (record {
       some-ports = le-leb 1 n h;
-      few-ports = le-leb n 48 k;
+      few-ports = le-leb n mostPorts k;
       supply = refl;
-      ports = λ p l. rw (getD-replicate 48 p coldPort noPort (omega arith)) (well-of coldPort refl);
+      ports = λ p l. rw (getD-replicate mostPorts p coldPort noPort (omega arith)) (well-of coldPort refl);
     })

@@ -8,6 +8,7 @@ use mathlib.Core.Logic.{_⊎_, inl, inr, ⊎-elim}
 use native.Mathlib.Omega.{arith}
 use lib.ListN.{getD, set, getD-replicate}
 use borrow.Author.Tests.{leb-false, ltb-false, le-leb, le-ltb, ne-eqb}
+use Rattle.sizes.specs.Sizes.{mostPorts, sampleBytes}
 use Rattle.lists.proofs.Ladder.{ladder-holds}
 use Rattle.lists.proofs.Tests.{choice-on}
 use Rattle.power.specs.Power.{forced, tenths, highestSupply, atMost}
@@ -115,12 +116,12 @@ call-well t (ticked block figure) e =
     (λ (x : Ran t block figure (tick t block figure)). rw (x .table) (tick-well t block (tenths figure) e (in-range figure (x .figure-in-range))))
     (tick-told t block figure)
 
-pub cold-table : (n : ℕ) → 1 ≤ n → n ≤ 48 → coldStart n .table ≡ coldTable n
+pub cold-table : (n : ℕ) → 1 ≤ n → n ≤ mostPorts → coldStart n .table ≡ coldTable n
 unfolding coldStart done
-cold-table n a b = simp (ne-eqb n 0 (λ e. omega arith), le-ltb 48 n b)
+cold-table n a b = simp (ne-eqb n 0 (λ e. omega arith), le-ltb mostPorts n b)
 
 -- every table that a history reaches is well-made
-pub reached-well : (n : ℕ) → 1 ≤ n → n ≤ 48 → (h : List Call) → wellMade (reached n h) ≡ true
+pub reached-well : (n : ℕ) → 1 ≤ n → n ≤ mostPorts → (h : List Call) → wellMade (reached n h) ≡ true
 unfolding reached
 reached-well n a b [] = subst (λ (t : Table). wellMade t ≡ true) (sym (cold-table n a b)) (cold-well n a b)
 reached-well n a b (c ∷ h) = call-well (reached n h) c (reached-well n a b h)
@@ -132,16 +133,16 @@ module _ (t : Table) (m : wellMade t ≡ true) (p : ℕ) (x : Shown) where
   quiet-needs u k n = subst (λ (st : State). Needs st x) (sym (k .states p)) n
 
   ran-needs : (block : List ℕ) (figure : ℕ) → Ran t block figure (tick t block figure) → p < t .count → Needs (portAt t p .state) x
-      → Needs (portAt (tick t block figure .table) p .state) (cond (isIdle (portAt t p .state)) x (seen (sampleAt block (14 * p)) x))
+      → Needs (portAt (tick t block figure .table) p .state) (cond (isIdle (portAt t p .state)) x (seen (sampleAt block (sampleBytes * p)) x))
   unfolding settledAt movedAt
   ran-needs block figure r l n =
       rw (r .table)
       (rw (port-here t (movedAt t block) (tenths figure) p (omega (arith, well-count t m)) l)
       (choice-on
-      (λ (z : Shown). Needs (settled (rankAt t (movedAt t block) p) (keptAt t (movedAt t block) (tenths figure) p) (step forced (portAt t p) (digest (sampleAt block (14 * p)))) .port .state) z)
-      (isIdle (portAt t p .state)) x (seen (sampleAt block (14 * p)) x)
-      (λ e. tick-needs-idle (sampleAt block (14 * p)) (rankAt t (movedAt t block) p) (keptAt t (movedAt t block) (tenths figure) p) (portAt t p) x e n)
-      (λ e. tick-needs (sampleAt block (14 * p)) (rankAt t (movedAt t block) p) (keptAt t (movedAt t block) (tenths figure) p) (portAt t p) x n)))
+      (λ (z : Shown). Needs (settled (rankAt t (movedAt t block) p) (keptAt t (movedAt t block) (tenths figure) p) (step forced (portAt t p) (digest (sampleAt block (sampleBytes * p)))) .port .state) z)
+      (isIdle (portAt t p .state)) x (seen (sampleAt block (sampleBytes * p)) x)
+      (λ e. tick-needs-idle (sampleAt block (sampleBytes * p)) (rankAt t (movedAt t block) p) (keptAt t (movedAt t block) (tenths figure) p) (portAt t p) x e n)
+      (λ e. tick-needs (sampleAt block (sampleBytes * p)) (rankAt t (movedAt t block) p) (keptAt t (movedAt t block) (tenths figure) p) (portAt t p) x n)))
 
   call-needs : (c : Call) → p < t .count → Needs (portAt t p .state) x → Needs (portAt (after t c) p .state) (adds t p c x)
   unfolding after adds
@@ -165,16 +166,16 @@ call-count t (ticked block figure) =
     (λ (e : Ran t block figure (tick t block figure)). ap (λ (u : Table). u .count) (e .table) ∙ count-after t (movedAt t block) (tenths figure))
     (tick-told t block figure)
 
-cold-needs : (n : ℕ) → n ≤ 48 → (p : ℕ) → p < n → Needs (portAt (coldTable n) p .state) nothing
+cold-needs : (n : ℕ) → n ≤ mostPorts → (p : ℕ) → p < n → Needs (portAt (coldTable n) p .state) nothing
 unfolding coldTable portAt
-cold-needs n b p l = subst (λ (x : Port). Needs (x .state) nothing) (sym (getD-replicate 48 p coldPort noPort (omega arith))) tt
+cold-needs n b p l = subst (λ (x : Port). Needs (x .state) nothing) (sym (getD-replicate mostPorts p coldPort noPort (omega arith))) tt
 
 pub cold-count : (n : ℕ) → coldTable n .count ≡ n
 unfolding coldTable
 cold-count n = refl
 
 -- every port below the count has shown what its state needs
-pub reached-needs : (n : ℕ) → 1 ≤ n → n ≤ 48 → (h : List Call) (p : ℕ) → p < reached n h .count → Needs (portAt (reached n h) p .state) (shown n p h)
+pub reached-needs : (n : ℕ) → 1 ≤ n → n ≤ mostPorts → (h : List Call) (p : ℕ) → p < reached n h .count → Needs (portAt (reached n h) p .state) (shown n p h)
 unfolding reached shown
 reached-needs n a b [] p l =
     let e = cold-table n a b in

@@ -7,6 +7,7 @@ use mathlib.Core.List.{List}
 use mathlib.Core.Logic.{⊎-elim}
 use native.Mathlib.Omega.{arith}
 use borrow.Author.Tests.{lt-leb, le-leb}
+use Rattle.sizes.specs.Sizes.{mostPorts, sampleBytes}
 use Rattle.power.specs.Power.{tenths, forced}
 use Rattle.sample.specs.Sample.{sampleAt}
 use Rattle.port.specs.States.{inTest}
@@ -52,29 +53,29 @@ module _ (t : Table) (block : List ℕ) (figure : ℕ) where
   unfolding movedAt
   claim-moves p l = claim-here t m p l
 
-  kept-so : (p : ℕ) → keptAt t m (tenths figure) p ≡ keeps 48 (rankAt t m) (λ q. claimAt t m q .0) figure p
+  kept-so : (p : ℕ) → keptAt t m (tenths figure) p ≡ keeps mostPorts (rankAt t m) (λ q. claimAt t m q .0) figure p
   unfolding keptAt
   kept-so p = refl
 
   sheds-so : (q p : ℕ) → claims (rankAt t m) q ≡ true → keptAt t m (tenths figure) q ≡ false → before (rankAt t m) q p ≡ true → keptAt t m (tenths figure) p ≡ false
   unfolding keptAt
-  sheds-so q p c k b = shed-after 48 (rankAt t m) (λ r. claimAt t m r .0) figure q p c k b
+  sheds-so q p c k b = shed-after mostPorts (rankAt t m) (λ r. claimAt t m r .0) figure q p c k b
 
-  no-longer-so : (q : ℕ) → q < 48 → claims (rankAt t m) q ≡ true → keptAt t m (tenths figure) q ≡ false
-      → ((r : ℕ) → r < 48 → claims (rankAt t m) r ≡ true → before (rankAt t m) r q ≡ true → keptAt t m (tenths figure) r ≡ true)
-      → figure < keptSum 48 (rankAt t m) (λ r. claimAt t m r .0) figure + claimAt t m q .0
+  no-longer-so : (q : ℕ) → q < mostPorts → claims (rankAt t m) q ≡ true → keptAt t m (tenths figure) q ≡ false
+      → ((r : ℕ) → r < mostPorts → claims (rankAt t m) r ≡ true → before (rankAt t m) r q ≡ true → keptAt t m (tenths figure) r ≡ true)
+      → figure < keptSum mostPorts (rankAt t m) (λ r. claimAt t m r .0) figure + claimAt t m q .0
   unfolding keptAt
-  no-longer-so q l c k h = longest 48 (rankAt t m) (λ r. claimAt t m r .0) figure q l c k h
+  no-longer-so q l c k h = longest mostPorts (rankAt t m) (λ r. claimAt t m r .0) figure q l c k h
 
-  walked-so : (p : ℕ) → p < 48 → keptAt t m (tenths figure) p ≡ isIn p (walked 48 (rankAt t m) (λ q. claimAt t m q .0) figure)
+  walked-so : (p : ℕ) → p < mostPorts → keptAt t m (tenths figure) p ≡ isIn p (walked mostPorts (rankAt t m) (λ q. claimAt t m q .0) figure)
   unfolding keptAt
-  walked-so p l = walk-keeps 48 (rankAt t m) (λ q. claimAt t m q .0) figure p l
+  walked-so p l = walk-keeps mostPorts (rankAt t m) (λ q. claimAt t m q .0) figure p l
 
   tells : Tells t m
   unfolding movedAt
-  tells p l = latches-told forced (portAt t p) (digest (sampleAt block (14 * p)))
+  tells p l = latches-told forced (portAt t p) (digest (sampleAt block (sampleBytes * p)))
 
-  port-moves : t .count ≤ 48 → (p : ℕ) → p < t .count
+  port-moves : t .count ≤ mostPorts → (p : ℕ) → p < t .count
       → portAt (tableAfter t m (tenths figure)) p ≡ settled (rankAt t m p) (keptAt t m (tenths figure) p) (moves t block p) .port
   unfolding movedAt settledAt
   port-moves few p l = port-here t m (tenths figure) p (omega arith) l
@@ -123,7 +124,7 @@ ran-ticks t block figure m f =
       claimed = claim-moves t block figure;
       unclaimed = rank-past t x;
       sheds = sheds-so t block figure;
-      fits = kept-sum-fits 48 (rankAt t x) (λ q. claimAt t x q .0) figure;
+      fits = kept-sum-fits mostPorts (rankAt t x) (λ q. claimAt t x q .0) figure;
       no-longer = no-longer-so t block figure;
       latched = latches-after t x (tenths figure) (well-count t m) (tells t block figure);
       past = port-past t x (tenths figure);

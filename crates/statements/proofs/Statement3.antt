@@ -7,6 +7,7 @@ use mathlib.Core.List.{List, _∷_}
 use mathlib.Core.Logic.{⊎-elim}
 use lib.Dec.{ltb}
 use borrow.Author.Tests.{ltb-true}
+use Rattle.sizes.specs.Sizes.{mostPorts}
 use Rattle.lists.proofs.Tests.{and-left, and-right}
 use Rattle.power.specs.Power.{tenths}
 use Rattle.port.specs.States.{closed, inTest}
@@ -43,7 +44,7 @@ needs-both TestMode x c f n = absurd (false≢true (sym f))
 needs-both TestError x c f n = absurd (false≢true c)
 
 -- in any table that calls reach: a port that is closed outside TEST_MODE has shown both
-pub closed-has-shown : (n : ℕ) → 1 ≤ n → n ≤ 48 → (h : List Call) (p : ℕ) → closedAt (reached n h) p ≡ true → inTest (portAt (reached n h) p .state) ≡ false → shown n p h ≡ both
+pub closed-has-shown : (n : ℕ) → 1 ≤ n → n ≤ mostPorts → (h : List Call) (p : ℕ) → closedAt (reached n h) p ≡ true → inTest (portAt (reached n h) p .state) ≡ false → shown n p h ≡ both
 unfolding closedAt
 closed-has-shown n a b h p c f =
     needs-both (portAt (reached n h) p .state) (shown n p h)
@@ -59,7 +60,7 @@ ran t block figure e =
     (λ (x : Ran t block figure (tick t block figure)). x .table)
     (tick-told t block figure)
 
-pub statement-3 : (n : ℕ) → 1 ≤ n → n ≤ 48 → (h : List Call) (block : List ℕ) (less more : ℕ) → less ≤ more
+pub statement-3 : (n : ℕ) → 1 ≤ n → n ≤ mostPorts → (h : List Call) (block : List ℕ) (less more : ℕ) → less ≤ more
     → accepted (tick (reached n h) block less .answer) ≡ true → accepted (tick (reached n h) block more .answer) ≡ true
     → Third n h block less more
 unfolding reached after

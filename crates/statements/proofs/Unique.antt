@@ -5,6 +5,7 @@ use mathlib.Core.Path.{_≡_, refl, sym, _∙_, subst}
 use mathlib.Core.Bool.{Bool}
 use mathlib.Core.List.{List}
 use lib.ListN.{take, drop}
+use Rattle.sizes.specs.Sizes.{mostPorts}
 use Rattle.lists.specs.Places.{tabulate}
 use Rattle.power.specs.Power.{atMost, same, supplyOf, plus, join as joinSums, fits}
 use Rattle.power.specs.declared.Power.{Power}
@@ -117,7 +118,7 @@ unique =
       settling-rank-in = λ state control asks. one ℕ (rankIn state control asks);
       settling-settled-port = λ rank kept port. one Moved (settledAs rank kept port);
       quick-sweep = λ cells lane. with-two Bool (List ℕ) (List ℕ) (sweptLeft cells lane) (sweptCells cells lane) (sweptLane cells lane);
-      share-kept = λ claims s. one (List Bool) (tabulate 48 (keeps 48 (rankOf claims) (demandOf claims) (s .0)));
+      share-kept = λ claims s. one (List Bool) (tabulate mostPorts (keeps mostPorts (rankOf claims) (demandOf claims) (s .0)));
       cells-state-of = λ code. one State (stateOf code);
       cells-code-of = λ state. one ℕ (codeOf state);
       cells-latches-of = λ cell. one Latches (latchesOf cell);

@@ -3,6 +3,7 @@
 use Prim.Native.Nat.{ℕ, _*_}
 use mathlib.Core.Bool.{Bool, true, false, cond, _&&_}
 use mathlib.Core.List.{List, [], _∷_}
+use Rattle.sizes.specs.Sizes.{sampleBytes}
 use Rattle.class.specs.Class.{classOfTwo}
 use Rattle.sample.specs.Sample.{sampleAt, flagsOf}
 use Rattle.signature.specs.Signature.{signatureOf}
@@ -75,7 +76,7 @@ unfoldable pub adds : Table → ℕ → Call → Shown → Shown
 adds t p (control q w) x = x
 adds t p (status q) x = x
 adds t p (requested q v) x = x
-adds t p (ticked block figure) x = cond (accepted (tick t block figure .answer)) (cond (isIdle (portAt t p .state)) x (seen (sampleAt block (14 * p)) x)) x
+adds t p (ticked block figure) x = cond (accepted (tick t block figure .answer)) (cond (isIdle (portAt t p .state)) x (seen (sampleAt block (sampleBytes * p)) x)) x
 
 -- it looks at bytes, and at whether the port stands in IDLE, and at nothing else of the table
 unfoldable pub shown : ℕ → ℕ → List Call → Shown

@@ -6,6 +6,7 @@ use Prim.Native.Nat.{ℕ, _+_, _*_, _≤_, _<_}
 use mathlib.Core.Path.{_≡_}
 use mathlib.Core.Bool.{Bool, true, false, _&&_}
 use mathlib.Core.List.{List}
+use Rattle.sizes.specs.Sizes.{mostPorts, sampleBytes}
 use Rattle.lists.specs.Bits.{bit}
 use Rattle.lists.specs.Count.{count}
 use Rattle.power.specs.Power.{tenths, forced}
@@ -35,7 +36,7 @@ use Rattle.statements.specs.History.{accepted}
 
 -- a port's own move on its own sample
 abbrev pub moves : Table → List ℕ → ℕ → Moved
-moves t block p = step forced (portAt t p) (digest (sampleAt block (14 * p)))
+moves t block p = step forced (portAt t p) (digest (sampleAt block (sampleBytes * p)))
 
 -- what an accepted tick makes of a table
 pub record Ticks (t : Table) (block : List ℕ) (figure : ℕ) (after : Table) (answer : Closed) : Type 0 where
@@ -43,33 +44,33 @@ pub record Ticks (t : Table) (block : List ℕ) (figure : ℕ) (after : Table) (
   pub moved : (p : ℕ) → p < t .count → portAt after p ≡ settled (rankAt t (movedAt t block) p) (keptAt t (movedAt t block) (tenths figure) p) (moves t block p) .port
   -- its claim ranks by age, priority and number, and is kept while the sum of the demands down the ranking is at most the figure
   pub ranked : (p : ℕ) → p < t .count → rankAt t (movedAt t block) p ≡ rank (portAt t p .state) (moves t block p)
-  pub shared : (p : ℕ) → keptAt t (movedAt t block) (tenths figure) p ≡ keeps 48 (rankAt t (movedAt t block)) (λ q. claimAt t (movedAt t block) q .0) figure p
+  pub shared : (p : ℕ) → keptAt t (movedAt t block) (tenths figure) p ≡ keeps mostPorts (rankAt t (movedAt t block)) (λ q. claimAt t (movedAt t block) q .0) figure p
   -- which is what the walk down the ranking keeps: "Going down the ranking, claims are kept while the sum of demands is at most the supply."
-  pub walked-down : (p : ℕ) → p < 48 → keptAt t (movedAt t block) (tenths figure) p ≡ isIn p (walked 48 (rankAt t (movedAt t block)) (λ q. claimAt t (movedAt t block) q .0) figure)
+  pub walked-down : (p : ℕ) → p < mostPorts → keptAt t (movedAt t block) (tenths figure) p ≡ isIn p (walked mostPorts (rankAt t (movedAt t block)) (λ q. claimAt t (movedAt t block) q .0) figure)
   pub claimed : (p : ℕ) → p < t .count → claimAt t (movedAt t block) p ≡ moves t block p .port .demand
   pub unclaimed : (p : ℕ) → t .count ≤ p → rankAt t (movedAt t block) p ≡ 6
   -- "The first that doesn't fit and all after it are shed, smaller ones too."
   pub sheds : (q p : ℕ) → claims (rankAt t (movedAt t block)) q ≡ true → keptAt t (movedAt t block) (tenths figure) q ≡ false → before (rankAt t (movedAt t block)) q p ≡ true
       → keptAt t (movedAt t block) (tenths figure) p ≡ false
   -- what is kept fits, and is the longest first part of the ranking that does: with the first that is shed it is over the figure
-  pub fits : keptSum 48 (rankAt t (movedAt t block)) (λ q. claimAt t (movedAt t block) q .0) figure ≤ figure
-  pub no-longer : (q : ℕ) → q < 48 → claims (rankAt t (movedAt t block)) q ≡ true → keptAt t (movedAt t block) (tenths figure) q ≡ false
-      → ((r : ℕ) → r < 48 → claims (rankAt t (movedAt t block)) r ≡ true → before (rankAt t (movedAt t block)) r q ≡ true → keptAt t (movedAt t block) (tenths figure) r ≡ true)
-      → figure < keptSum 48 (rankAt t (movedAt t block)) (λ r. claimAt t (movedAt t block) r .0) figure + claimAt t (movedAt t block) q .0
+  pub fits : keptSum mostPorts (rankAt t (movedAt t block)) (λ q. claimAt t (movedAt t block) q .0) figure ≤ figure
+  pub no-longer : (q : ℕ) → q < mostPorts → claims (rankAt t (movedAt t block)) q ≡ true → keptAt t (movedAt t block) (tenths figure) q ≡ false
+      → ((r : ℕ) → r < mostPorts → claims (rankAt t (movedAt t block)) r ≡ true → before (rankAt t (movedAt t block)) r q ≡ true → keptAt t (movedAt t block) (tenths figure) r ≡ true)
+      → figure < keptSum mostPorts (rankAt t (movedAt t block)) (λ r. claimAt t (movedAt t block) r .0) figure + claimAt t (movedAt t block) q .0
   -- a port's latches are those that it had and those of this tick: of its move, or 12 where it was shed
   pub latched : (p : ℕ) → p < t .count → portAt after p .latches ≡ join (portAt t p .latches) (latchedAt t (movedAt t block) (tenths figure) p)
   -- places past the count stay as they were
-  pub past : (p : ℕ) → p < 48 → t .count ≤ p → portAt after p ≡ portAt t p
+  pub past : (p : ℕ) → p < mostPorts → t .count ≤ p → portAt after p ≡ portAt t p
   pub same-count : after .count ≡ t .count
   -- "The figure is then stored."
   pub stored : after .supply ≡ tenths figure
   -- "bit p set exactly if port p is closed and its control word names that alternative", and the number is that of the closed ports
-  pub answers : answer ≡ Ports (maskA after) (maskB after) (count 48 (closedAt after))
-  pub bit-a : (p : ℕ) → p < 48 → bit p (maskA after) ≡ (closedAt after p && namesA (pairOf (portAt after p .control)))
-  pub bit-b : (p : ℕ) → p < 48 → bit p (maskB after) ≡ (closedAt after p && namesB (pairOf (portAt after p .control)))
+  pub answers : answer ≡ Ports (maskA after) (maskB after) (count mostPorts (closedAt after))
+  pub bit-a : (p : ℕ) → p < mostPorts → bit p (maskA after) ≡ (closedAt after p && namesA (pairOf (portAt after p .control)))
+  pub bit-b : (p : ℕ) → p < mostPorts → bit p (maskB after) ≡ (closedAt after p && namesB (pairOf (portAt after p .control)))
   -- no bit stands past the table's places
-  pub no-bit-a : (p : ℕ) → 48 ≤ p → bit p (maskA after) ≡ false
-  pub no-bit-b : (p : ℕ) → 48 ≤ p → bit p (maskB after) ≡ false
+  pub no-bit-a : (p : ℕ) → mostPorts ≤ p → bit p (maskA after) ≡ false
+  pub no-bit-b : (p : ℕ) → mostPorts ≤ p → bit p (maskB after) ≡ false
 
 -- what the sharing does to a port that has moved, case by case; ranks below 6 are claims
 pub record Settles (rank : ℕ) (m : Moved) : Type 0 where

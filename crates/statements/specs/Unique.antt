@@ -7,6 +7,7 @@ use mathlib.Core.Path.{_≡_}
 use mathlib.Core.Bool.{Bool}
 use mathlib.Core.List.{List}
 use lib.ListN.{take, drop}
+use Rattle.sizes.specs.Sizes.{mostPorts}
 use Rattle.lists.specs.Places.{tabulate}
 use Rattle.power.specs.Power.{atMost, same, supplyOf, plus, join as joinSums, fits}
 use Rattle.power.specs.declared.Power.{Power}
@@ -124,7 +125,7 @@ pub record Unique : Type 0 where
   pub settling-rank-in : (state : State) (control : ℕ) (asks : Bool) → One ℕ (λ r. r ≡ rankIn state control asks)
   pub settling-settled-port : (rank : ℕ) (kept : Bool) (port : Port) → One Moved (λ r. r ≡ settledAs rank kept port)
   pub quick-sweep : (cells lane : List ℕ) → OneWithTwo Bool (List ℕ) (List ℕ) (λ r cells' lane'. (r ≡ sweptLeft cells lane) × (cells' ≡ sweptCells cells lane) × (lane' ≡ sweptLane cells lane))
-  pub share-kept : (claims : Claims) (s : Power) → One (List Bool) (λ r. r ≡ tabulate 48 (keeps 48 (rankOf claims) (demandOf claims) (s .0)))
+  pub share-kept : (claims : Claims) (s : Power) → One (List Bool) (λ r. r ≡ tabulate mostPorts (keeps mostPorts (rankOf claims) (demandOf claims) (s .0)))
   pub cells-state-of : (code : ℕ) → One State (λ r. r ≡ stateOf code)
   pub cells-code-of : (state : State) → One ℕ (λ r. r ≡ codeOf state)
   pub cells-latches-of : (cell : ℕ) → One Latches (λ r. r ≡ latchesOf cell)

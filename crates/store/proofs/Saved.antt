@@ -8,11 +8,12 @@ use native.Mathlib.Omega.{arith}
 use lib.Dec.{eqb, ltb}
 use lib.ListN.{length, getD}
 use borrow.Author.Tests.{eqb-true, ltb-true}
+use Rattle.sizes.specs.Sizes.{mostPorts}
 use Rattle.lists.specs.Every.{every}
 use Rattle.lists.proofs.Every.{every-at}
 use Rattle.lists.proofs.Tests.{and-left, and-right}
 use Rattle.port.specs.States.{codeOf}
-use Rattle.cells.specs.Cells.{portHolds}
+use Rattle.cells.specs.Cells.{portHolds, cellsLong}
 use Rattle.cells.proofs.CodeLaws.{code-again, latches-again}
 use Rattle.cells.specs.Codes.{stateOf, latchByte, latchesOf}
 use Rattle.cells.proofs.Laws.{holds-state, holds-latches}
@@ -40,10 +41,10 @@ module _ (l : List ℕ) (p : ℕ) (e : portSaves l p ≡ true) where
   class-byte = let s = ltb-true (getD l (152 + p) 0) 256 (and-right (portHolds l p) (ltb (getD l (152 + p) 0) 256) e) in omega arith
 
 module _ (l : List ℕ) (e : imageable l ≡ true) where
-  pub saved-long : length l ≡ 728
+  pub saved-long : length l ≡ cellsLong
   unfolding imageable
-  saved-long = eqb-true (length l) 728 (and-left (eqb (length l) 728) (every 48 (portSaves l)) e)
+  saved-long = eqb-true (length l) cellsLong (and-left (eqb (length l) cellsLong) (every mostPorts (portSaves l)) e)
 
-  pub saved-port : (p : ℕ) → p < 48 → portSaves l p ≡ true
+  pub saved-port : (p : ℕ) → p < mostPorts → portSaves l p ≡ true
   unfolding imageable
-  saved-port = every-at 48 (portSaves l) (and-right (eqb (length l) 728) (every 48 (portSaves l)) e)
+  saved-port = every-at mostPorts (portSaves l) (and-right (eqb (length l) cellsLong) (every mostPorts (portSaves l)) e)

@@ -1,14 +1,19 @@
 // From the cells of a table to the bytes of its image, in room that the caller lends.
+use sizes::CELLS;
+use sizes::IMAGE;
+use sizes::IMAGE_PORT;
+use sizes::PORTS;
 ghost use mathlib.Core.Path.{_≡_};
 ghost use mathlib.Core.Bool.{true};
 ghost use Prim.Native.Nat.{_/_, _%_, _<_};
 ghost use lib.ListN.{length};
-ghost use Rattle.cells.specs.Cells.{portOf, tableOf};
-ghost use Rattle.image.specs.Image.{portBytes, headBytes, imageOf, portSaves, imageable, saves, roomAfter};
+ghost use Rattle.sizes.specs.Sizes.{mostPorts};
+ghost use Rattle.cells.specs.Cells.{portOf, tableOf, cellsLong};
+ghost use Rattle.image.specs.Image.{portBytes, headBytes, imageOf, portSaves, imageable, saves, roomAfter, imageLong};
 
 fn port_saves(cells: &[u16], p: usize) -> bool
-    requires { ⌜ length (now cells) ≡ 728 ⌝ }
-    requires { ⌜ p < 48 ⌝ }
+    requires { ⌜ length (now cells) ≡ cellsLong ⌝ }
+    requires { ⌜ p < mostPorts ⌝ }
     ensures { λ r. ⌜ r ≡ portSaves (now (cells .entry)) p ⌝ }
 {
     if 9 < cells[8 + p] {
@@ -24,11 +29,11 @@ fn port_saves(cells: &[u16], p: usize) -> bool
 pub fn imageable(cells: &[u16]) -> bool
     ensures { λ r. ⌜ r ≡ imageable (now (cells .entry)) ⌝ }
 {
-    if cells.len() != 728 {
+    if cells.len() != CELLS {
         return false;
     }
     let mut p = 0;
-    while p < 48 {
+    while p < PORTS {
         if !port_saves(cells, p) {
             return false;
         }
@@ -50,9 +55,9 @@ fn low(word: u16) -> u8
 }
 
 // A state and latches that there are are their own codes.
-fn port_bytes(cells: &[u16], p: usize) -> [u8; 21]
-    requires { ⌜ length (now cells) ≡ 728 ⌝ }
-    requires { ⌜ p < 48 ⌝ }
+fn port_bytes(cells: &[u16], p: usize) -> [u8; IMAGE_PORT]
+    requires { ⌜ length (now cells) ≡ cellsLong ⌝ }
+    requires { ⌜ p < mostPorts ⌝ }
     requires { ⌜ portSaves (now cells) p ≡ true ⌝ }
     ensures { λ r. ⌜ r ≡ portBytes (portOf (now (cells .entry)) p) ⌝ }
 {
@@ -94,7 +99,7 @@ fn port_bytes(cells: &[u16], p: usize) -> [u8; 21]
 }
 
 fn head_bytes(cells: &[u16]) -> [u8; 6]
-    requires { ⌜ length (now cells) ≡ 728 ⌝ }
+    requires { ⌜ length (now cells) ≡ cellsLong ⌝ }
     ensures { λ r. ⌜ r ≡ headBytes (tableOf (now (cells .entry))) ⌝ }
 {
     let count = cells[0];
@@ -105,7 +110,7 @@ fn head_bytes(cells: &[u16]) -> [u8; 6]
 // A port's bytes are worked out once, and then written.
 fn put(cells: &[u16], room: &mut [u8])
     requires { ⌜ imageable (now cells) ≡ true ⌝ }
-    requires { ⌜ length (now room) ≡ 1014 ⌝ }
+    requires { ⌜ length (now room) ≡ imageLong ⌝ }
     ensures { λ _. ⌜ now (room .exit) ≡ imageOf (tableOf (now (cells .entry))) ⌝ }
 {
     let head = head_bytes(cells);
@@ -115,11 +120,11 @@ fn put(cells: &[u16], room: &mut [u8])
         k += 1;
     }
     let mut p = 0;
-    while p < 48 {
+    while p < PORTS {
         let bytes = port_bytes(cells, p);
         let mut q = 0;
-        while q < 21 {
-            room[6 + 21 * p + q] = bytes[q];
+        while q < IMAGE_PORT {
+            room[6 + IMAGE_PORT * p + q] = bytes[q];
             q += 1;
         }
         p += 1;
@@ -131,7 +136,7 @@ pub fn store(cells: &[u16], room: &mut [u8]) -> bool
     ensures { λ r. ⌜ r ≡ saves (now (cells .entry)) (now (room .entry)) ⌝ }
     ensures { λ _. ⌜ now (room .exit) ≡ roomAfter (now (cells .entry)) (now (room .entry)) ⌝ }
 {
-    if room.len() != 1_014 {
+    if room.len() != IMAGE {
         return false;
     }
     if !imageable(cells) {

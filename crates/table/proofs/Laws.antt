@@ -5,6 +5,7 @@ use mathlib.Core.Path.{_≡_, sym}
 use mathlib.Core.Bool.{true, false, not}
 use lib.Dec.{leb}
 use borrow.Author.Tests.{leb-true, not-true, not-false}
+use Rattle.sizes.specs.Sizes.{mostPorts}
 use Rattle.lists.proofs.Every.{every-at}
 use Rattle.lists.proofs.Tests.{and-left, and-right, not-leb}
 use Rattle.power.specs.Power.{atMost, over}
@@ -25,8 +26,8 @@ unfolding wellMade
 none-ill t = not-true (illMade t)
 
 -- a well-made table has at most 48 ports
-pub well-count : (t : Table) → wellMade t ≡ true → t .count ≤ 48
-well-count t e = leb-true (t .count) 48 (and-left (leb (t .count) 48) _ (and-right (leb 1 (t .count)) _ (rw (well-made-is t) at e)))
+pub well-count : (t : Table) → wellMade t ≡ true → t .count ≤ mostPorts
+well-count t e = leb-true (t .count) mostPorts (and-left (leb (t .count) mostPorts) _ (and-right (leb 1 (t .count)) _ (rw (well-made-is t) at e)))
 
 -- and each port below the count is well-made
 pub well-at : (t : Table) → wellMade t ≡ true → (p : ℕ) → p < t .count → wellPort (portAt t p) ≡ true

@@ -6,6 +6,7 @@ use mathlib.Core.Bool.{Bool, true, false, not, _&&_}
 use native.Mathlib.Omega.{arith}
 use lib.Dec.{leb}
 use borrow.Author.Tests.{le-leb, leb-true, not-true}
+use Rattle.sizes.specs.Sizes.{mostCount, mostPorts}
 use Rattle.lists.specs.Every.{every}
 use Rattle.lists.proofs.Every.{every-of}
 use Rattle.lists.specs.Table.{some}
@@ -30,13 +31,13 @@ use Rattle.table.proofs.Laws.{well-at}
 use Rattle.table.specs.WellMade.{wellPort, wellMade}
 
 pub record WellCounts (c : Counts) : Type 0 where
-  pub detection : c .detection ≤ 2000
-  pub backoff : c .backoff ≤ 2000
-  pub error-delay : c .«error_delay» ≤ 2000
-  pub power-on : c .«power_on» ≤ 2000
-  pub limiting : c .limiting ≤ 2000
-  pub overload : c .overload ≤ 2000
-  pub no-load : c .«no_load» ≤ 2000
+  pub detection : c .detection ≤ mostCount
+  pub backoff : c .backoff ≤ mostCount
+  pub error-delay : c .«error_delay» ≤ mostCount
+  pub power-on : c .«power_on» ≤ mostCount
+  pub limiting : c .limiting ≤ mostCount
+  pub overload : c .overload ≤ mostCount
+  pub no-load : c .«no_load» ≤ mostCount
 
 pub record Well (p : Port) : Type 0 where
   pub counts : WellCounts (p .counts)
@@ -52,7 +53,7 @@ split a b e = (and-left a b e, and-right a b e)
 counts-of : (c : Counts) → wellCounts c ≡ true → WellCounts c
 unfolding wellCounts
 counts-of c e =
-    let t : ℕ → Bool = λ n. leb n 2000 in
+    let t : ℕ → Bool = λ n. leb n mostCount in
     let g6 = t (c .«no_load») in
     let g5 = t (c .overload) && g6 in
     let g4 = t (c .limiting) && g5 in
@@ -66,26 +67,26 @@ counts-of c e =
     let e5 = split (t (c .limiting)) g5 (e4 .1) in
     let e6 = split (t (c .overload)) g6 (e5 .1) in
     record {
-      detection = leb-true (c .detection) 2000 (e1 .0);
-      backoff = leb-true (c .backoff) 2000 (e2 .0);
-      error-delay = leb-true (c .«error_delay») 2000 (e3 .0);
-      power-on = leb-true (c .«power_on») 2000 (e4 .0);
-      limiting = leb-true (c .limiting) 2000 (e5 .0);
-      overload = leb-true (c .overload) 2000 (e6 .0);
-      no-load = leb-true (c .«no_load») 2000 (e6 .1);
+      detection = leb-true (c .detection) mostCount (e1 .0);
+      backoff = leb-true (c .backoff) mostCount (e2 .0);
+      error-delay = leb-true (c .«error_delay») mostCount (e3 .0);
+      power-on = leb-true (c .«power_on») mostCount (e4 .0);
+      limiting = leb-true (c .limiting) mostCount (e5 .0);
+      overload = leb-true (c .overload) mostCount (e6 .0);
+      no-load = leb-true (c .«no_load») mostCount (e6 .1);
     }
 
 counts-test : (c : Counts) → WellCounts c → wellCounts c ≡ true
 unfolding wellCounts
 counts-test c w =
     simp (
-      le-leb (c .detection) 2000 (w .detection),
-      le-leb (c .backoff) 2000 (w .backoff),
-      le-leb (c .«error_delay») 2000 (w .error-delay),
-      le-leb (c .«power_on») 2000 (w .power-on),
-      le-leb (c .limiting) 2000 (w .limiting),
-      le-leb (c .overload) 2000 (w .overload),
-      le-leb (c .«no_load») 2000 (w .no-load),
+      le-leb (c .detection) mostCount (w .detection),
+      le-leb (c .backoff) mostCount (w .backoff),
+      le-leb (c .«error_delay») mostCount (w .error-delay),
+      le-leb (c .«power_on») mostCount (w .power-on),
+      le-leb (c .limiting) mostCount (w .limiting),
+      le-leb (c .overload) mostCount (w .overload),
+      le-leb (c .«no_load») mostCount (w .no-load),
     )
 
 pub well-of : (p : Port) → wellPort p ≡ true → Well p
@@ -102,13 +103,13 @@ pub well-test : (p : Port) → Well p → wellPort p ≡ true
 well-test p w = simp (well-port-is, counts-test (p .counts) (w .counts), le-leb (p .class) 4 (w .class), w .control, w .demand)
 
 -- a counter that has advanced is small enough, whatever it was
-pub up-small : (n : ℕ) → up n ≤ 2000
+pub up-small : (n : ℕ) → up n ≤ mostCount
 unfolding up
 up-small n = omega arith
 
-pub during-small : (b : Bool) (n : ℕ) → during b n ≤ 2000
+pub during-small : (b : Bool) (n : ℕ) → during b n ≤ mostCount
 unfolding during
-during-small b n = choice (λ (m : ℕ). m ≤ 2000) b (up n) 0 (up-small n) (omega arith)
+during-small b n = choice (λ (m : ℕ). m ≤ mostCount) b (up n) 0 (up-small n) (omega arith)
 
 -- new counters; and other latches, at which no test looks
 pub with-counts-well : (c : Counts) (p : Port) → WellCounts c → Well p → Well (withCounts c p)
@@ -150,7 +151,7 @@ enter-well s p w = record { counts = entry-counts s (p .counts) (w .counts); cla
 -- the parts of a well-made table
 pub record WellTable (t : Table) : Type 0 where
   pub some-ports : leb 1 (t .count) ≡ true
-  pub few-ports : leb (t .count) 48 ≡ true
+  pub few-ports : leb (t .count) mostPorts ≡ true
   pub supply : atMost (t .supply) highestSupply ≡ true
   pub ports : (p : ℕ) → p < t .count → Well (portAt t p)
 
@@ -159,12 +160,12 @@ table-of t well =
     let e = rw (well-made-is t) at well in
     let g3 = every (t .count) (λ p. wellPort (portAt t p)) in
     let g2 = atMost (t .supply) highestSupply && g3 in
-    let g1 = leb (t .count) 48 && g2 in
+    let g1 = leb (t .count) mostPorts && g2 in
     let e1 = and-right (leb 1 (t .count)) g1 e in
-    let e2 = and-right (leb (t .count) 48) g2 e1 in
+    let e2 = and-right (leb (t .count) mostPorts) g2 e1 in
     record {
       some-ports = and-left (leb 1 (t .count)) g1 e;
-      few-ports = and-left (leb (t .count) 48) g2 e1;
+      few-ports = and-left (leb (t .count) mostPorts) g2 e1;
       supply = and-left (atMost (t .supply) highestSupply) g3 e2;
       ports = λ p l. well-of (portAt t p) (well-at t well p l);
     }

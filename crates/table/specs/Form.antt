@@ -14,10 +14,6 @@ use Rattle.table.specs.declared.form.StatusRead.{StatusRead}
 use Rattle.table.specs.declared.form.Closed.the-variants.{Refused as NoTick}
 use Rattle.table.specs.declared.form.Ticked.{Ticked}
 
--- a table has room for "1 to 48" ports
-abbrev pub places : ℕ
-places = 48
-
 abbrev pub zeroCounts : Counts
 zeroCounts = record { detection = 0; backoff = 0; «error_delay» = 0; «power_on» = 0; limiting = 0; overload = 0; «no_load» = 0 }
 

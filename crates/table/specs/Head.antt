@@ -4,6 +4,7 @@
 use Prim.Native.Nat.{ℕ}
 use mathlib.Core.Bool.{Bool, _&&_}
 use lib.Dec.{leb}
+use Rattle.sizes.specs.Sizes.{mostCount, mostPorts}
 use Rattle.power.specs.Power.{atMost, highestSupply}
 use Rattle.power.specs.declared.Power.{Power}
 use Rattle.port.specs.declared.form.Counts.{Counts}
@@ -11,9 +12,9 @@ use Rattle.port.specs.declared.form.Counts.{Counts}
 -- no counter is over 2,000
 unfoldable pub wellCounts : Counts → Bool
 wellCounts c =
-    leb (c .detection) 2000 && (leb (c .backoff) 2000 && (leb (c .«error_delay») 2000 && (leb (c .«power_on») 2000
-    && (leb (c .limiting) 2000 && (leb (c .overload) 2000 && leb (c .«no_load») 2000)))))
+    leb (c .detection) mostCount && (leb (c .backoff) mostCount && (leb (c .«error_delay») mostCount && (leb (c .«power_on») mostCount
+    && (leb (c .limiting) mostCount && (leb (c .overload) mostCount && leb (c .«no_load») mostCount)))))
 
 -- what a well-made table has beside its ports
 unfoldable pub wellHead : ℕ → Power → Bool
-wellHead count supply = (leb 1 count && leb count 48) && atMost supply highestSupply
+wellHead count supply = (leb 1 count && leb count mostPorts) && atMost supply highestSupply

@@ -1,9 +1,10 @@
 // The table, and what its calls answer. An answer stands beside the table, and a refusal is document 01's number.
 use port::form::Port;
 use power::Power;
+use sizes::PORTS;
 
 pub struct Table {
-    pub ports: [Port; 48],
+    pub ports: [Port; PORTS],
     // Places at or past the port count never change and count as open.
     pub count: u16,
     // The figure of the last accepted tick.

@@ -11,6 +11,7 @@ use lib.Count.{ones}
 use lib.Dec.{eqb, ltb}
 use lib.ListN.{length, getD}
 use borrow.Author.Tests.{lt-ltb, le-ltb, le-leb, eqb-true, eq-eqb}
+use Rattle.sizes.specs.Sizes.{mostPorts}
 use Rattle.lists.specs.Bits.{one, place}
 use Rattle.lists.proofs.Bits.{one-small}
 use Rattle.lists.specs.Count.{mask}
@@ -74,13 +75,13 @@ module _ (lane : List ℕ) (p : ℕ) (sided : Sided lane) (h : p ≤ 40) where
 module _ (n : ℕ) (l : List ℕ) where
   -- ---- the lane that a pass leaves
 
-  lane-within : (p : ℕ) → p < 48 → p < n → getD (sideLane n l) p 0 ≡ sideOf (portOf l p)
+  lane-within : (p : ℕ) → p < mostPorts → p < n → getD (sideLane n l) p 0 ≡ sideOf (portOf l p)
   unfolding sideLane
-  lane-within p h x = getD-tabulate 48 (λ q. cond (ltb q n) (sideOf (portOf l q)) 0) 0 p h ∙ ap (λ (t : Bool). cond t (sideOf (portOf l p)) 0) (lt-ltb p n x)
+  lane-within p h x = getD-tabulate mostPorts (λ q. cond (ltb q n) (sideOf (portOf l q)) 0) 0 p h ∙ ap (λ (t : Bool). cond t (sideOf (portOf l p)) 0) (lt-ltb p n x)
 
-  lane-past : (p : ℕ) → p < 48 → n ≤ p → getD (sideLane n l) p 0 ≡ 0
+  lane-past : (p : ℕ) → p < mostPorts → n ≤ p → getD (sideLane n l) p 0 ≡ 0
   unfolding sideLane
-  lane-past p h x = getD-tabulate 48 (λ q. cond (ltb q n) (sideOf (portOf l q)) 0) 0 p h ∙ ap (λ (t : Bool). cond t (sideOf (portOf l p)) 0) (le-ltb p n x)
+  lane-past p h x = getD-tabulate mostPorts (λ q. cond (ltb q n) (sideOf (portOf l q)) 0) 0 p h ∙ ap (λ (t : Bool). cond t (sideOf (portOf l p)) 0) (le-ltb p n x)
 
   -- it has sides alone
   pub side-lane-sided : Sided (sideLane n l)
@@ -93,10 +94,10 @@ module _ (n : ℕ) (l : List ℕ) where
 
   -- and its masks are those of the table with these ports
   module _ (T : Table) (counted : T .count ≡ n) (same : (p : ℕ) → p < n → portOf l p ≡ portAt T p) where
-    pub side-lane-a : mask 48 (λ p. eqb (getD (sideLane n l) p 0) 1) ≡ maskA T
+    pub side-lane-a : mask mostPorts (λ p. eqb (getD (sideLane n l) p 0) 1) ≡ maskA T
     unfolding mask maskA closedAt sideIn
     side-lane-a =
-        total-cong 48 (λ p. place p (isA (sideLane n l) p)) (λ p. place p (closedAt T p && namesA (pairOf (portAt T p .control))))
+        total-cong mostPorts (λ p. place p (isA (sideLane n l) p)) (λ p. place p (closedAt T p && namesA (pairOf (portAt T p .control))))
         (λ p h.
         ap (place p)
         (⊎-elim
@@ -109,10 +110,10 @@ module _ (n : ℕ) (l : List ℕ) where
         ∙ sym (ap (λ (t : Bool). (t && closed (portAt T p .state)) && namesA (pairOf (portAt T p .control))) (le-ltb p (T .count) (omega (arith, counted)))))
         (side p n)))
 
-    pub side-lane-b : mask 48 (λ p. eqb (getD (sideLane n l) p 0) 256) ≡ maskB T
+    pub side-lane-b : mask mostPorts (λ p. eqb (getD (sideLane n l) p 0) 256) ≡ maskB T
     unfolding mask maskB closedAt sideIn
     side-lane-b =
-        total-cong 48 (λ p. place p (isB (sideLane n l) p)) (λ p. place p (closedAt T p && namesB (pairOf (portAt T p .control))))
+        total-cong mostPorts (λ p. place p (isB (sideLane n l) p)) (λ p. place p (closedAt T p && namesB (pairOf (portAt T p .control))))
         (λ p h.
         ap (place p)
         (⊎-elim
@@ -130,17 +131,17 @@ module _ (n : ℕ) (l : List ℕ) where
     unfolding answered named
     side-lane-answer = ap₂ (λ (x y : ℕ). Ports x y (ones x + ones y)) side-lane-a side-lane-b
 
-module _ (n : ℕ) (l : List ℕ) (few : n ≤ 48) (long : length l ≡ cellsLong) where
+module _ (n : ℕ) (l : List ℕ) (few : n ≤ mostPorts) (long : length l ≡ cellsLong) where
   -- ---- where the cells are a table of so many ports
   tallies : tallied n l ≡ true
   unfolding tallied
-  tallies = simp (eq-eqb _ _ long, le-leb n 48 few)
+  tallies = simp (eq-eqb _ _ long, le-leb n mostPorts few)
 
   pub drawn-in : drawnIn n l ≡ drawnOn n l
   unfolding drawnIn
   drawn-in = simp tallies
 
-  module _ (lane : List ℕ) (wide : length lane ≡ 48) where
+  module _ (lane : List ℕ) (wide : length lane ≡ mostPorts) where
     pub closed-in : closedIn n l lane ≡ named (sideLane n l)
     unfolding closedIn
     closed-in = simp (tallies, eq-eqb _ _ wide)
@@ -149,6 +150,6 @@ module _ (n : ℕ) (l : List ℕ) (few : n ≤ 48) (long : length l ≡ cellsLon
     unfolding sidesIn
     sides-in = simp (tallies, eq-eqb _ _ wide)
 
-pub side-lane-long : (n : ℕ) (l : List ℕ) → length (sideLane n l) ≡ 48
+pub side-lane-long : (n : ℕ) (l : List ℕ) → length (sideLane n l) ≡ mostPorts
 unfolding sideLane
-side-lane-long n l = length-tabulate 48 _
+side-lane-long n l = length-tabulate mostPorts _

@@ -7,6 +7,7 @@ use mathlib.Core.List.{List}
 use lib.Count.{ones}
 use lib.Dec.{eqb, leb, ltb}
 use lib.ListN.{length, getD}
+use Rattle.sizes.specs.Sizes.{mostPorts}
 use Rattle.lists.specs.Bits.{one}
 use Rattle.lists.specs.Count.{mask}
 use Rattle.lists.specs.Places.{tabulate}
@@ -37,14 +38,14 @@ sideOf x = sideIn (x .state) (x .control)
 
 -- the side of each of the first n ports, and none past them
 unfoldable pub sideLane : ℕ → List ℕ → List ℕ
-sideLane n l = tabulate 48 (λ p. cond (ltb p n) (sideOf (portOf l p)) 0)
+sideLane n l = tabulate mostPorts (λ p. cond (ltb p n) (sideOf (portOf l p)) 0)
 
 -- a number of such a lane: 0, 1 or 256
 abbrev pub Side : ℕ → Type 0
 Side v = v ≡ one (eqb v 1) + 256 * one (eqb v 256)
 
 abbrev pub Sided : List ℕ → Type 0
-Sided lane = (p : ℕ) → p < 48 → Side (getD lane p 0)
+Sided lane = (p : ℕ) → p < mostPorts → Side (getD lane p 0)
 
 -- eight of them in one number
 unfoldable pub weighed : List ℕ → ℕ → ℕ
@@ -60,13 +61,13 @@ isB lane p = eqb (getD lane p 0) 256
 
 -- the masks that a lane of sides is, and how many ports they name
 unfoldable pub named : List ℕ → Closed
-named lane = let a : ℕ = mask 48 (isA lane) in let b : ℕ = mask 48 (isB lane) in Ports a b (ones a + ones b)
+named lane = let a : ℕ = mask mostPorts (isA lane) in let b : ℕ = mask mostPorts (isB lane) in Ports a b (ones a + ones b)
 
 -- ---- what is answered of cells and a count
 
 -- as many cells as a table has, and no more ports than places
 unfoldable pub tallied : ℕ → List ℕ → Bool
-tallied n l = eqb (length l) cellsLong && leb n 48
+tallied n l = eqb (length l) cellsLong && leb n mostPorts
 
 -- what the closed ports draw
 unfoldable pub drawnOn : ℕ → List ℕ → ℕ
@@ -77,7 +78,7 @@ drawnIn n l = cond (tallied n l) (drawnOn n l) 0
 
 -- of what is no table of so many ports no port is named
 unfoldable pub closedIn : ℕ → List ℕ → List ℕ → Closed
-closedIn n l lane = cond (tallied n l && eqb (length lane) 48) (named (sideLane n l)) (Ports 0 0 0)
+closedIn n l lane = cond (tallied n l && eqb (length lane) mostPorts) (named (sideLane n l)) (Ports 0 0 0)
 
 unfoldable pub sidesIn : ℕ → List ℕ → List ℕ → List ℕ
-sidesIn n l lane = cond (tallied n l && eqb (length lane) 48) (sideLane n l) lane
+sidesIn n l lane = cond (tallied n l && eqb (length lane) mostPorts) (sideLane n l) lane

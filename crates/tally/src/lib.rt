@@ -1,12 +1,15 @@
 // What the closed ports of lent cells draw, and the masks that name them.
+use sizes::CELLS;
+use sizes::PORTS;
 use table::form::Closed;
 ghost use mathlib.Core.Path.{_≡_};
 ghost use mathlib.Core.Bool.{cond};
 ghost use Prim.Native.Nat.{_+_, _*_, _<_, _≤_, _^_};
 ghost use lib.ListN.{length, getD};
+ghost use Rattle.sizes.specs.Sizes.{mostPorts};
 ghost use Rattle.port.specs.States.{closed};
 ghost use Rattle.table.specs.Drawn.{draws};
-ghost use Rattle.cells.specs.Cells.{portOf};
+ghost use Rattle.cells.specs.Cells.{portOf, cellsLong};
 ghost use Rattle.cells.specs.Codes.{stateOf};
 ghost use Rattle.tally.specs.Tally.{drawnOn, drawnIn, sideIn, sideLane, Sided, weighed, named, closedIn, sidesIn};
 
@@ -24,14 +27,14 @@ fn is_shut(state: u16) -> bool
 }
 
 fn draws_at(cells: &[u16], p: usize) -> u32
-    requires { ⌜ (length (now cells) ≡ 728) × (p < 48) ⌝ }
+    requires { ⌜ (length (now cells) ≡ cellsLong) × (p < mostPorts) ⌝ }
     ensures { λ r. ⌜ (r ≡ draws (portOf (now (cells .entry)) p)) × (r < 2 ^ 16) ⌝ }
 {
     pick(is_shut(cells[8 + p]), cells[104 + p], 0) as u32
 }
 
 fn sum_drawn(cells: &[u16], n: usize) -> u32
-    requires { ⌜ (length (now cells) ≡ 728) × (n ≤ 48) ⌝ }
+    requires { ⌜ (length (now cells) ≡ cellsLong) × (n ≤ mostPorts) ⌝ }
     ensures { λ r. ⌜ (r ≡ drawnOn n (now (cells .entry))) × (r ≤ n * 65535) ⌝ }
 {
     let mut sum = 0u32;
@@ -47,10 +50,10 @@ fn sum_drawn(cells: &[u16], n: usize) -> u32
 pub fn drawn(cells: &[u16], n: usize) -> u32
     ensures { λ r. ⌜ r ≡ drawnIn n (now (cells .entry)) ⌝ }
 {
-    if cells.len() != 728 {
+    if cells.len() != CELLS {
         return 0;
     }
-    if 48 < n {
+    if PORTS < n {
         return 0;
     }
     sum_drawn(cells, n)
@@ -70,7 +73,7 @@ fn side_of(state: u16, control: u16) -> u16
 
 // The side of every port into the lane, and none past them.
 fn sides(cells: &[u16], n: usize, lane: &mut [u16])
-    requires { ⌜ (length (now cells) ≡ 728) × (n ≤ 48) × (length (now lane) ≡ 48) ⌝ }
+    requires { ⌜ (length (now cells) ≡ cellsLong) × (n ≤ mostPorts) × (length (now lane) ≡ mostPorts) ⌝ }
     ensures { λ _. ⌜ now (lane .exit) ≡ sideLane n (now (cells .entry)) ⌝ }
 {
     let mut p = 0;
@@ -78,14 +81,14 @@ fn sides(cells: &[u16], n: usize, lane: &mut [u16])
         lane[p] = side_of(cells[8 + p], cells[56 + p]);
         p += 1;
     }
-    while p < 48 {
+    while p < PORTS {
         lane[p] = 0;
         p += 1;
     }
 }
 
 fn at(lane: &[u16], p: usize) -> u32
-    requires { ⌜ (length (now lane) ≡ 48) × (p < 48) × Sided (now lane) ⌝ }
+    requires { ⌜ (length (now lane) ≡ mostPorts) × (p < mostPorts) × Sided (now lane) ⌝ }
     ensures { λ r. ⌜ (r ≡ getD (now (lane .entry)) p 0) × (r ≤ 256) ⌝ }
 {
     lane[p] as u32
@@ -94,7 +97,7 @@ fn at(lane: &[u16], p: usize) -> u32
 // Eight ports in one number: those on A in its low byte, those on B in the high one. Twice that is added up, so that all eight are
 // multiplied alike and a compiler takes them at once.
 fn eight(lane: &[u16], p: usize) -> u16
-    requires { ⌜ (length (now lane) ≡ 48) × (p ≤ 40) × Sided (now lane) ⌝ }
+    requires { ⌜ (length (now lane) ≡ mostPorts) × (p ≤ 40) × Sided (now lane) ⌝ }
     ensures { λ r. ⌜ r ≡ weighed (now (lane .entry)) p ⌝ }
 {
     let twice = at(lane, p) * 2
@@ -117,7 +120,7 @@ fn placed(mask: u64, byte: u16, at: usize) -> u64
 }
 
 fn masks(lane: &[u16]) -> Closed
-    requires { ⌜ (length (now lane) ≡ 48) × Sided (now lane) ⌝ }
+    requires { ⌜ (length (now lane) ≡ mostPorts) × Sided (now lane) ⌝ }
     ensures { λ r. ⌜ r ≡ named (now (lane .entry)) ⌝ }
 {
     let mut a = 0u64;
@@ -139,13 +142,13 @@ pub fn closed_ports(cells: &[u16], n: usize, lane: &mut [u16]) -> Closed
     ensures { λ r. ⌜ r ≡ closedIn n (now (cells .entry)) (now (lane .entry)) ⌝ }
     ensures { λ _. ⌜ now (lane .exit) ≡ sidesIn n (now (cells .entry)) (now (lane .entry)) ⌝ }
 {
-    if cells.len() != 728 {
+    if cells.len() != CELLS {
         return Closed::Ports(0, 0, 0);
     }
-    if 48 < n {
+    if PORTS < n {
         return Closed::Ports(0, 0, 0);
     }
-    if lane.len() != 48 {
+    if lane.len() != PORTS {
         return Closed::Ports(0, 0, 0);
     }
     sides(cells, n, lane);

@@ -8,6 +8,8 @@ use crate::steps::steps;
 use block::flags_into;
 use power::Power;
 use quick::sweep;
+use sizes::PORTS;
+use sizes::SAMPLE;
 use table::form::Closed;
 use tally::closed_ports;
 use tally::drawn;
@@ -16,7 +18,8 @@ use well::well_made;
 ghost use mathlib.Core.Path.{_≡_};
 ghost use Prim.Native.Nat.{_*_, _≤_};
 ghost use lib.ListN.{length};
-ghost use Rattle.cells.specs.Cells.{countCell};
+ghost use Rattle.sizes.specs.Sizes.{mostPorts};
+ghost use Rattle.cells.specs.Cells.{countCell, cellsLong};
 ghost use Rattle.cells.specs.Laws.{Holds};
 ghost use Rattle.cells.specs.Lent.{cellsTicked};
 ghost use Rattle.well.specs.Judged.{wellCells};
@@ -27,7 +30,7 @@ ghost use Rattle.passes.specs.Passes.{Classes, refusalOf, Ready, someAsk, moved
 // The number of the refusal, 0 if nothing is refused: then the lane has the flags of every port. They are read before the ports are
 // tested, though looked at after: what was just written would have to be waited for.
 fn refusal(cells: &[u16], block: &[u8], figure: u64, lane: &mut [u16]) -> u8
-    requires { ⌜ length (now lane) ≡ 48 ⌝ }
+    requires { ⌜ length (now lane) ≡ mostPorts ⌝ }
     ensures { λ r. ⌜ r ≡ refusalOf (wellCells (now (cells .entry))) (countCell (now (cells .entry))) (now (block .entry)) figure ⌝ }
     ensures { λ r. ⌜ (r ≡ 0 → now (lane .exit) ≡ flagLane (countCell (now (cells .entry))) (now (block .entry)) (now (lane .entry))) ⌝ }
 {
@@ -39,7 +42,7 @@ fn refusal(cells: &[u16], block: &[u8], figure: u64, lane: &mut [u16]) -> u8
     if !well_made(cells) {
         return 13;
     }
-    if block.len() != 14 * n {
+    if block.len() != SAMPLE * n {
         return 1;
     }
     let highest = Power::HIGHEST_SUPPLY.0;
@@ -64,7 +67,7 @@ fn move_all(cells: &mut [u16], n: usize, block: &[u8], lane: &mut [u16]) -> bool
 
 // Where no port asks and what is closed fits, nothing has to be shared.
 fn share_all(cells: &mut [u16], n: usize, lane: &[u16], asks: bool, supply: u16)
-    requires { ⌜ (length (now cells) ≡ 728) × (n ≤ 48) × (length (now lane) ≡ 48) × Holds n (now cells) × Classes n (now cells) ⌝ }
+    requires { ⌜ (length (now cells) ≡ cellsLong) × (n ≤ mostPorts) × (length (now lane) ≡ mostPorts) × Holds n (now cells) × Classes n (now cells) ⌝ }
     ensures { λ _. ⌜ now (cells .exit) ≡ sharedOn n (now (lane .entry)) asks supply (now (cells .entry)) ⌝ }
 {
     let drawn = drawn(cells, n);
@@ -90,7 +93,7 @@ pub fn tick(cells: &mut [u16], block: &[u8], figure: u64) -> Closed
     ensures { λ r. ⌜ r ≡ tickOn (now (cells .entry)) (now (block .entry)) figure .answer ⌝ }
     ensures { λ _. ⌜ now (cells .exit) ≡ cellsTicked (tickOn (now (cells .entry)) (now (block .entry)) figure) (now (cells .entry)) ⌝ }
 {
-    let mut lane = [0u16; 48];
+    let mut lane = [0u16; PORTS];
     let refused = refusal(cells, block, figure, &mut lane);
     if refused != 0 {
         return Closed::Refused(refused);

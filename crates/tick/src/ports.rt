@@ -9,11 +9,12 @@ use power::Power;
 ghost use mathlib.Core.Path.{_≡_};
 ghost use Prim.Native.Nat.{_+_, _<_};
 ghost use lib.ListN.{length, getD};
-ghost use Rattle.cells.specs.Cells.{countsOf, portOf};
+ghost use Rattle.sizes.specs.Sizes.{mostPorts};
+ghost use Rattle.cells.specs.Cells.{countsOf, portOf, cellsLong};
 ghost use Rattle.cells.specs.Writes.{withPortCells};
 
 fn counts_at(cells: &[u16], p: usize) -> Counts
-    requires { ⌜ (length (now cells) ≡ 728) × (p < 48) ⌝ }
+    requires { ⌜ (length (now cells) ≡ cellsLong) × (p < mostPorts) ⌝ }
     ensures { λ r. ⌜ r ≡ countsOf (now (cells .entry)) p ⌝ }
 {
     Counts {
@@ -28,7 +29,7 @@ fn counts_at(cells: &[u16], p: usize) -> Counts
 }
 
 pub fn port_at(cells: &[u16], p: usize) -> Port
-    requires { ⌜ (length (now cells) ≡ 728) × (p < 48) × (getD (now cells) (152 + p) 0 < 256) ⌝ }
+    requires { ⌜ (length (now cells) ≡ cellsLong) × (p < mostPorts) × (getD (now cells) (152 + p) 0 < 256) ⌝ }
     ensures { λ r. ⌜ r ≡ portOf (now (cells .entry)) p ⌝ }
 {
     let state = state_of(cells[8 + p]);
@@ -46,7 +47,7 @@ pub fn port_at(cells: &[u16], p: usize) -> Port
 }
 
 pub fn put_port(cells: &mut [u16], p: usize, port: Port)
-    requires { ⌜ (length (now cells) ≡ 728) × (p < 48) ⌝ }
+    requires { ⌜ (length (now cells) ≡ cellsLong) × (p < mostPorts) ⌝ }
     ensures { λ _. ⌜ now (cells .exit) ≡ withPortCells p port (now (cells .entry)) ⌝ }
 {
     let state = port.state;

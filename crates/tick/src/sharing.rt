@@ -5,14 +5,16 @@ use claims::claims_of;
 use claims::wanted;
 use power::Power;
 use settling::settled_port;
+use sizes::PORTS;
 ghost use mathlib.Core.Path.{_≡_};
 ghost use mathlib.Core.Bool.{true, cond};
 ghost use Prim.Native.Nat.{_+_, _*_, _<_, _≤_};
 ghost use lib.Dec.{leb};
 ghost use lib.ListN.{length, getD};
+ghost use Rattle.sizes.specs.Sizes.{mostPorts};
 ghost use Rattle.settling.specs.Claim.{settlingChanges, settledAs};
 ghost use Rattle.share.specs.Share.{noClaim};
-ghost use Rattle.cells.specs.Cells.{portOf, written};
+ghost use Rattle.cells.specs.Cells.{portOf, written, cellsLong};
 ghost use Rattle.cells.specs.Laws.{Holds};
 ghost use Rattle.cells.specs.Writes.{withPortCells};
 ghost use Rattle.claims.specs.Claimed.{isSet};
@@ -26,7 +28,7 @@ fn changes(rank: u8, kept: bool) -> bool
 }
 
 fn settle(cells: &mut [u16], p: usize, rank: u8, kept: bool)
-    requires { ⌜ (length (now cells) ≡ 728) × (p < 48) × (getD (now cells) (152 + p) 0 < 256) ⌝ }
+    requires { ⌜ (length (now cells) ≡ cellsLong) × (p < mostPorts) × (getD (now cells) (152 + p) 0 < 256) ⌝ }
     ensures { λ _. ⌜ now (cells .exit) ≡ cond (settlingChanges rank kept) (withPortCells p (settledAs rank kept (portOf (now (cells .entry)) p) .port) (now (cells .entry))) (now (cells .entry)) ⌝ }
 {
     if changes(rank, kept) {
@@ -37,8 +39,8 @@ fn settle(cells: &mut [u16], p: usize, rank: u8, kept: bool)
 }
 
 // Each claim was kept or shed.
-fn settle_all(cells: &mut [u16], n: usize, ranks: [u8; 48], kept: [bool; 48])
-    requires { ⌜ (length (now cells) ≡ 728) × (n ≤ 48) × Holds n (now cells) × Classes n (now cells) ⌝ }
+fn settle_all(cells: &mut [u16], n: usize, ranks: [u8; PORTS], kept: [bool; PORTS])
+    requires { ⌜ (length (now cells) ≡ cellsLong) × (n ≤ mostPorts) × Holds n (now cells) × Classes n (now cells) ⌝ }
     ensures { λ _. ⌜ now (cells .exit) ≡ written n (settledBy ranks kept (now (cells .entry))) (now (cells .entry)) ⌝ }
 {
     let mut p = 0;
@@ -59,7 +61,7 @@ fn asker_rank(asks: u16) -> u8
 
 // Every claim is kept: who asked enters its state.
 fn admit(cells: &mut [u16], n: usize, lane: &[u16])
-    requires { ⌜ (length (now cells) ≡ 728) × (n ≤ 48) × (length (now lane) ≡ 48) × Holds n (now cells) × Classes n (now cells) ⌝ }
+    requires { ⌜ (length (now cells) ≡ cellsLong) × (n ≤ mostPorts) × (length (now lane) ≡ mostPorts) × Holds n (now cells) × Classes n (now cells) ⌝ }
     ensures { λ _. ⌜ now (cells .exit) ≡ written n (admittedBy (now (lane .entry)) (now (cells .entry))) (now (cells .entry)) ⌝ }
 {
     let mut p = 0;
@@ -81,7 +83,7 @@ fn all_fit(drawn: u32, wanted: u32, supply: u32) -> bool
 
 // The lane has a number other than 0 for each port that asks. Where all claims fit, nothing has to be ranked.
 pub fn share_out(cells: &mut [u16], n: usize, lane: &[u16], drawn: u32, supply: u16)
-    requires { ⌜ (length (now cells) ≡ 728) × (n ≤ 48) × (length (now lane) ≡ 48) × Holds n (now cells) × Classes n (now cells) ⌝ }
+    requires { ⌜ (length (now cells) ≡ cellsLong) × (n ≤ mostPorts) × (length (now lane) ≡ mostPorts) × Holds n (now cells) × Classes n (now cells) ⌝ }
     ensures { λ _. ⌜ now (cells .exit) ≡ written n (sharedBy n (now (lane .entry)) drawn supply (now (cells .entry))) (now (cells .entry)) ⌝ }
 {
     if all_fit(drawn, wanted(cells, n, lane), supply as u32) {

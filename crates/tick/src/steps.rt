@@ -11,10 +11,11 @@ ghost use mathlib.Core.Path.{_≡_};
 ghost use mathlib.Core.Bool.{true, false, cond};
 ghost use Prim.Native.Nat.{ℕ, _+_, _*_, _/_, _<_, _≤_};
 ghost use lib.ListN.{length, getD};
+ghost use Rattle.sizes.specs.Sizes.{mostPorts, sampleBytes};
 ghost use Rattle.lists.specs.Bits.{one};
 ghost use Rattle.lists.specs.Every.{someBelow};
 ghost use Rattle.sample.specs.Sample.{sampleAt};
-ghost use Rattle.cells.specs.Cells.{written};
+ghost use Rattle.cells.specs.Cells.{written, cellsLong};
 ghost use Rattle.cells.specs.Laws.{Holds};
 ghost use Rattle.cells.specs.Writes.{withPortCells};
 ghost use Rattle.claims.specs.Claimed.{isSet};
@@ -22,8 +23,8 @@ ghost use Rattle.passes.specs.Passes.{Classes, wholeMove, markedMove, steppedPo
 
 // The sample of a port that the block has.
 fn sample(block: &[u8], port: usize) -> Sample
-    requires { ⌜ port < length (now block) / 14 ⌝ }
-    ensures { λ r. ⌜ r ≡ sampleAt (now (block .entry)) (14 * port) ⌝ }
+    requires { ⌜ port < length (now block) / sampleBytes ⌝ }
+    ensures { λ r. ⌜ r ≡ sampleAt (now (block .entry)) (sampleBytes * port) ⌝ }
 {
     match sample_of(block, port) {
         Sampled::Is(s) => s,
@@ -41,7 +42,7 @@ fn sample(block: &[u8], port: usize) -> Sample
 
 // The port at a place takes its whole step if it is marked. Does it ask?
 fn stepped(cells: &mut [u16], block: &[u8], p: usize, mark: u16) -> bool
-    requires { ⌜ (length (now cells) ≡ 728) × (p < 48) × (p < length (now block) / 14) × (getD (now cells) (152 + p) 0 < 256) ⌝ }
+    requires { ⌜ (length (now cells) ≡ cellsLong) × (p < mostPorts) × (p < length (now block) / sampleBytes) × (getD (now cells) (152 + p) 0 < 256) ⌝ }
     ensures { λ r. ⌜ r ≡ markedMove mark (now (block .entry)) (now (cells .entry)) p .asks ⌝ }
     ensures { λ _. ⌜ now (cells .exit) ≡ cond (isSet mark) (withPortCells p (wholeMove (now (block .entry)) (now (cells .entry)) p .port) (now (cells .entry))) (now (cells .entry)) ⌝ }
 {
@@ -66,7 +67,7 @@ fn said(asks: bool) -> u16
 
 // Eight ports from here on that have no mark.
 fn clear_ahead(lane: &[u16], p: usize, n: usize) -> bool
-    requires { ⌜ (length (now lane) ≡ 48) × (p < n) × (n ≤ 48) ⌝ }
+    requires { ⌜ (length (now lane) ≡ mostPorts) × (p < n) × (n ≤ mostPorts) ⌝ }
     ensures { λ r. ⌜ (r ≡ true → (p + 8 ≤ n) × ((q : ℕ) → q < 8 → getD (now (lane .entry)) (p + q) 0 ≡ 0)) ⌝ }
 {
     if p % 8 != 0 {
@@ -87,7 +88,7 @@ fn clear_ahead(lane: &[u16], p: usize, n: usize) -> bool
 
 // The lane has the marks at first, and then a 1 for each port that asks to be closed. Does one?
 pub fn steps(cells: &mut [u16], n: usize, block: &[u8], lane: &mut [u16]) -> bool
-    requires { ⌜ (length (now cells) ≡ 728) × (n ≤ 48) × (length (now block) ≡ 14 * n) × (length (now lane) ≡ 48) × Holds n (now cells) × Classes n (now cells) ⌝ }
+    requires { ⌜ (length (now cells) ≡ cellsLong) × (n ≤ mostPorts) × (length (now block) ≡ sampleBytes * n) × (length (now lane) ≡ mostPorts) × Holds n (now cells) × Classes n (now cells) ⌝ }
     ensures { λ r. ⌜ r ≡ someBelow n (λ p. markedMove (getD (now (lane .entry)) p 0) (now (block .entry)) (now (cells .entry)) p .asks) ⌝ }
     ensures { λ _. ⌜ now (cells .exit) ≡ written n (steppedPort (now (lane .entry)) (now (block .entry)) (now (cells .entry))) (now (cells .entry)) ⌝ }
     ensures { λ _. ⌜ now (lane .exit) ≡ steppedLane n (now (block .entry)) (now (cells .entry)) (now (lane .entry)) ⌝ }

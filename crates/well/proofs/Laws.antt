@@ -9,6 +9,7 @@ use native.Mathlib.Omega.{arith}
 use lib.Dec.{eqb, leb}
 use lib.ListN.{length, getD}
 use borrow.Author.Tests.{le-leb, lt-leb, leb-true, eqb-true, eqb-false, eq-eqb, ne-eqb}
+use Rattle.sizes.specs.Sizes.{mostPorts}
 use Rattle.lists.specs.Bits.{one}
 use Rattle.lists.specs.Every.{every}
 use Rattle.lists.proofs.Every.{every-at, every-cong}
@@ -62,13 +63,13 @@ unfolding every
 every-and zero f g = refl
 every-and (suc n) f g = four (every n f) (f n) (every n g) (g n) ∙ ap (λ (b : Bool). b && (f n && g n)) (every-and n f g)
 
-pub head-few : (n : ℕ) (s : Power) → wellHead n s ≡ true → n ≤ 48
+pub head-few : (n : ℕ) (s : Power) → wellHead n s ≡ true → n ≤ mostPorts
 unfolding wellHead
-head-few n s e = leb-true n 48 (and-right (leb 1 n) (leb n 48) (and-left (leb 1 n && leb n 48) (atMost s highestSupply) e))
+head-few n s e = leb-true n mostPorts (and-right (leb 1 n) (leb n mostPorts) (and-left (leb 1 n && leb n mostPorts) (atMost s highestSupply) e))
 
 pub head-some : (n : ℕ) (s : Power) → wellHead n s ≡ true → 1 ≤ n
 unfolding wellHead
-head-some n s e = leb-true 1 n (and-left (leb 1 n) (leb n 48) (and-left (leb 1 n && leb n 48) (atMost s highestSupply) e))
+head-some n s e = leb-true 1 n (and-left (leb 1 n) (leb n mostPorts) (and-left (leb 1 n && leb n mostPorts) (atMost s highestSupply) e))
 
 -- the test of a table, cell by cell
 well-table : (l : List ℕ) → wellMade (tableOf l) ≡ (wellHead (countCell l) (tenths (supplyCell l)) && every (countCell l) (λ q. wellPort (portOf l q)))
@@ -98,13 +99,13 @@ module _ (l : List ℕ) (e : headCells l ≡ true) where
   unfolding headCells
   head-well = and-right (eqb (length l) cellsLong) (wellHead (countCell l) (tenths (supplyCell l))) e
 
-  pub head-count : countCell l ≤ 48
+  pub head-count : countCell l ≤ mostPorts
   head-count = head-few (countCell l) (tenths (supplyCell l)) head-well
 
 pub record WellCells (l : List ℕ) : Type 0 where
   pub long : length l ≡ cellsLong
   pub some-ports : 1 ≤ countCell l
-  pub few-ports : countCell l ≤ 48
+  pub few-ports : countCell l ≤ mostPorts
   pub is-table : isTable l ≡ true
   pub well-made : wellMade (tableOf l) ≡ true
   pub holds : Holds (countCell l) l

@@ -2,11 +2,15 @@
 // compiler does them for eight ports at once.
 use class::BUDGETS;
 use power::Power;
+use sizes::CELLS;
+use sizes::MOST_COUNT;
+use sizes::PORTS_16;
 ghost use mathlib.Core.Path.{_≡_};
 ghost use mathlib.Core.Bool.{not};
 ghost use Prim.Native.Nat.{_<_, _≤_, max};
 ghost use lib.Dec.{leb};
 ghost use lib.ListN.{length};
+ghost use Rattle.sizes.specs.Sizes.{mostCount, mostPorts};
 ghost use Rattle.lists.specs.Bits.{one};
 ghost use Rattle.power.specs.Power.{tenths};
 ghost use Rattle.class.specs.Class.{isDemand};
@@ -14,8 +18,6 @@ ghost use Rattle.control.specs.Control.{refused};
 ghost use Rattle.table.specs.Head.{wellCounts, wellHead};
 ghost use Rattle.cells.specs.Cells.{cellsLong, countsOf};
 ghost use Rattle.well.specs.Judged.{portFine, headCells, wellCells};
-
-const MOST: u16 = 2_000;
 
 // A demand is none, or the budget of a class; class 0 has the budget of class 3.
 const FIRST: u16 = BUDGETS[1];
@@ -46,8 +48,8 @@ fn greater(a: u16, b: u16) -> u16
 
 // The greatest counter: one comparison for seven.
 fn top(cells: &[u16], p: usize) -> u16
-    requires { ⌜ (length (now cells) ≡ cellsLong) × (p < 48) ⌝ }
-    ensures { λ r. ⌜ leb r 2000 ≡ wellCounts (countsOf (now (cells .entry)) p) ⌝ }
+    requires { ⌜ (length (now cells) ≡ cellsLong) × (p < mostPorts) ⌝ }
+    ensures { λ r. ⌜ leb r mostCount ≡ wellCounts (countsOf (now (cells .entry)) p) ⌝ }
 {
     greater(
         greater(
@@ -59,10 +61,10 @@ fn top(cells: &[u16], p: usize) -> u16
 }
 
 fn port_fine(cells: &[u16], p: usize) -> bool
-    requires { ⌜ (length (now cells) ≡ cellsLong) × (p < 48) ⌝ }
+    requires { ⌜ (length (now cells) ≡ cellsLong) × (p < mostPorts) ⌝ }
     ensures { λ r. ⌜ r ≡ portFine (now (cells .entry)) p ⌝ }
 {
-    (top(cells, p) <= MOST)
+    (top(cells, p) <= MOST_COUNT)
         & (cells[152 + p] <= 4)
         & control_fine(cells[56 + p])
         & demand_fine(cells[104 + p])
@@ -81,14 +83,14 @@ fn head_fine(count: u16, supply: u16) -> bool
     ensures { λ r. ⌜ r ≡ wellHead count (tenths supply) ⌝ }
 {
     let highest = Power::HIGHEST_SUPPLY.0;
-    (1 <= count) & (count <= 48) & (supply <= highest)
+    (1 <= count) & (count <= PORTS_16) & (supply <= highest)
 }
 
 // What a call may go by that looks at the ports itself.
 pub fn well_head(cells: &[u16]) -> bool
     ensures { λ r. ⌜ r ≡ headCells (now (cells .entry)) ⌝ }
 {
-    if cells.len() != 728 {
+    if cells.len() != CELLS {
         return false;
     }
     head_fine(cells[0], cells[1])

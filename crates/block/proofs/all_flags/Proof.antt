@@ -9,6 +9,7 @@ use native.Mathlib.Omega.{arith}
 use lib.Dec.{ltb}
 use lib.ListN.{length, set}
 use denote.Ref.{now}
+use Rattle.sizes.specs.Sizes.{mostPorts}
 use Rattle.lists.specs.Bits.{above}
 use Rattle.lists.specs.Every.{every}
 use Rattle.lists.proofs.Every.{every-next, every-cong}
@@ -113,5 +114,5 @@ all-flags-spec =
     let e : l .i ≡ s .args .n = le-antisymm (l .inv .0) (c .loop2-test .left) in
     let F = l .inv .2 (now (s .args .lane)) (c .before .before .before .loop .inv .2) in (
       l .inv .1 ∙ ap (λ (k : ℕ). every k (low (now (s .args .block)))) e ∙ sym (fine-is (s .args .n) (now (s .args .block))),
-      filled-below 0 (flagsOfPort (now (s .args .block))) (now (s .args .lane)) 48 (s .args .n) (l .lane) (s .pre .2) (rw e at F),
+      filled-below 0 (flagsOfPort (now (s .args .block))) (now (s .args .lane)) mostPorts (s .args .n) (l .lane) (s .pre .2) (rw e at F),
     )))

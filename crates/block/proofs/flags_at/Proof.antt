@@ -3,6 +3,7 @@
 use Prim.Native.Nat.{ℕ, _+_, _*_}
 use native.Mathlib.Omega.{arith}
 use borrow.Author.Needs.{needs}
+use Rattle.sizes.specs.Sizes.{sampleBytes}
 use Rattle.sample.specs.Sample.{wordAt, sampleAt}
 use Rattle.block.specs.Flags.{flagsOfPort}
 use Rattle.block.proofs.flags_at.Statement.{statement}
@@ -16,12 +17,12 @@ flags-at-spec =
     (λ c. search needs)
     (λ c. search needs)
     (λ c. search needs)
-    (λ c. omega (arith, c .shared-slice-known .given (14 * c .before .args .port + 12)))
-    (λ c. omega (arith, c .shared-slice-known .given (14 * c .before .args .port + 12)))
+    (λ c. omega (arith, c .shared-slice-known .given (sampleBytes * c .before .args .port + 12)))
+    (λ c. omega (arith, c .shared-slice-known .given (sampleBytes * c .before .args .port + 12)))
     (λ c. search needs)
     (λ c. search needs)
-    (λ c. omega (arith, c .shared-slice-known2 .given (14 * c .before .before .args .port + 12 + 1)))
+    (λ c. omega (arith, c .shared-slice-known2 .given (sampleBytes * c .before .before .args .port + 12 + 1)))
     (λ c.
-    let at : ℕ = 14 * c .before .before .args .port + 12 in
+    let at : ℕ = sampleBytes * c .before .before .args .port + 12 in
     omega (arith, c .shared-slice-known2 .given at, c .shared-slice-known2 .given (at + 1)))
     (λ c. omega arith))

@@ -5,6 +5,7 @@ use native.Mathlib.Nat.{le-antisymm}
 use native.Mathlib.Omega.{arith}
 use borrow.Author.Needs.{needs}
 use denote.Ref.{now}
+use Rattle.cells.specs.Cells.{cellsLong}
 use Rattle.lists.specs.Places.{Filled}
 use Rattle.lists.proofs.Places.{filled-none, filled-more, filled-all}
 use Rattle.replies.specs.Cold.{coldCell}
@@ -13,10 +14,10 @@ use Rattle.calls.proofs.fill.Statement.{statement}
 use Rattle.calls.proofs.fill.Tie as tie
 
 abbrev Inv-loop : tie.InvT-loop
-Inv-loop cells₀ count k₀ cells k = (k ≤ 728) × Filled 0 (coldCell count) cells₀ k cells
+Inv-loop cells₀ count k₀ cells k = (k ≤ cellsLong) × Filled 0 (coldCell count) cells₀ k cells
 
 abbrev μ-loop : tie.MeasureT-loop
-μ-loop cells₀ count k₀ cells k = 728 - k
+μ-loop cells₀ count k₀ cells k = cellsLong - k
 
 pub fill-spec : {M : Type 1} → statement M
 fill-spec =
@@ -38,5 +39,5 @@ fill-spec =
     (λ c.
     let l = c .before .loop in
     let s = c .before .before .before in
-    let e : l .k ≡ 728 = le-antisymm (l .inv .0) (omega arith) in
-    filled-all 0 (coldCell (s .args .count)) (now (s .args .cells)) 728 (l .cells) (s .pre) (rw e at (l .inv .1)) ∙ cold-cells (s .args .count)))
+    let e : l .k ≡ cellsLong = le-antisymm (l .inv .0) (omega arith) in
+    filled-all 0 (coldCell (s .args .count)) (now (s .args .cells)) cellsLong (l .cells) (s .pre) (rw e at (l .inv .1)) ∙ cold-cells (s .args .count)))

@@ -6,6 +6,7 @@ use native.Mathlib.Nat.{le-antisymm}
 use native.Mathlib.Omega.{arith}
 use lib.ListN.{replicate}
 use denote.Ref.{now}
+use Rattle.sizes.specs.Sizes.{mostPorts}
 use Rattle.lists.specs.Places.{Filled}
 use Rattle.lists.proofs.Places.{filled-none, filled-more, filled-over}
 use Rattle.power.specs.Power.{zeroPower}
@@ -15,7 +16,7 @@ use Rattle.claims.proofs.demands_of.Statement.{statement}
 use Rattle.claims.proofs.demands_of.Tie as tie
 
 abbrev Inv-loop : tie.InvT-loop
-Inv-loop cells n demands₀ p₀ demands p = (p ≤ n) × Filled zeroPower (λ q. portOf cells q .demand) (replicate 48 zeroPower) p demands
+Inv-loop cells n demands₀ p₀ demands p = (p ≤ n) × Filled zeroPower (λ q. portOf cells q .demand) (replicate mostPorts zeroPower) p demands
 
 abbrev μ-loop : tie.MeasureT-loop
 μ-loop cells n demands₀ p₀ demands p = n - p
@@ -38,8 +39,8 @@ demands-of-spec =
     (λ c.
     let l = c .before .before .loop in
     let a = c .before .before .before .args in
-    (omega arith, filled-more zeroPower (λ q. portOf (now (a .cells)) q .demand) (replicate 48 zeroPower) (l .p) (l .demands) _ (l .inv .1) (omega (arith, c .before .before .before .pre .1)) refl))
+    (omega arith, filled-more zeroPower (λ q. portOf (now (a .cells)) q .demand) (replicate mostPorts zeroPower) (l .p) (l .demands) _ (l .inv .1) (omega (arith, c .before .before .before .pre .1)) refl))
     (λ c.
     let l = c .before .loop in
     let a = c .before .before .args in
-    filled-over zeroPower (λ q. portOf (now (a .cells)) q .demand) zeroPower 48 (a .n) (l .demands) (rw (le-antisymm (l .inv .0) (c .loop-test .left)) at (l .inv .1))))
+    filled-over zeroPower (λ q. portOf (now (a .cells)) q .demand) zeroPower mostPorts (a .n) (l .demands) (rw (le-antisymm (l .inv .0) (c .loop-test .left)) at (l .inv .1))))

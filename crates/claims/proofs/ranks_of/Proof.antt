@@ -9,6 +9,7 @@ use lib.ListN.{getD, replicate}
 use borrow.Author.Needs.{needs}
 use denote.Ref.{now}
 use mathlib.Core.Path.{_∙_}
+use Rattle.sizes.specs.Sizes.{mostPorts}
 use Rattle.lists.specs.Places.{Filled}
 use Rattle.lists.proofs.Places.{filled-none, filled-more, filled-over}
 use Rattle.port.specs.declared.form.State.{State}
@@ -23,7 +24,7 @@ abbrev rankHere : List ℕ → List ℕ → ℕ → ℕ
 rankHere cells lane p = rankIn (portOf cells p .state) (portOf cells p .control) (isSet (getD lane p 0))
 
 abbrev Inv-loop : tie.InvT-loop
-Inv-loop cells n lane ranks₀ p₀ ranks p = (p ≤ n) × Filled 0 (rankHere cells lane) (replicate 48 noClaim) p ranks
+Inv-loop cells n lane ranks₀ p₀ ranks p = (p ≤ n) × Filled 0 (rankHere cells lane) (replicate mostPorts noClaim) p ranks
 
 abbrev μ-loop : tie.MeasureT-loop
 μ-loop cells n lane ranks₀ p₀ ranks p = n - p
@@ -53,10 +54,10 @@ ranks-of-spec =
     let l = c .before .before .before .before .before .before .loop in
     let a = c .before .before .before .before .before .before .before .before .before .args in (
       omega arith,
-      filled-more 0 (rankHere (now (a .cells)) (now (a .lane))) (replicate 48 noClaim) (l .p) (l .ranks) _ (l .inv .1) (omega (arith, c .before .before .before .before .before .before .before .before .before .pre .1))
+      filled-more 0 (rankHere (now (a .cells)) (now (a .lane))) (replicate mostPorts noClaim) (l .p) (l .ranks) _ (l .inv .1) (omega (arith, c .before .before .before .before .before .before .before .before .before .pre .1))
           (c .rank-in .ensures ∙ ap (λ (s : State). rankIn s (portOf (now (a .cells)) (l .p) .control) (isSet (getD (now (a .lane)) (l .p) 0))) (c .before .before .before .state-of .ensures)),
     ))
     (λ c.
     let l = c .before .loop in
     let a = c .before .before .before .before .args in
-    filled-over 0 (rankHere (now (a .cells)) (now (a .lane))) noClaim 48 (a .n) (l .ranks) (rw (le-antisymm (l .inv .0) (c .loop-test .left)) at (l .inv .1))))
+    filled-over 0 (rankHere (now (a .cells)) (now (a .lane))) noClaim mostPorts (a .n) (l .ranks) (rw (le-antisymm (l .inv .0) (c .loop-test .left)) at (l .inv .1))))

@@ -7,16 +7,17 @@ use native.Mathlib.Omega.{arith}
 use lib.ListN.{length-replicate, getD-replicate}
 use lib.Seq.{ext-getD}
 use borrow.Author.Needs.{needs}
+use Rattle.cells.specs.Cells.{cellsLong}
 use Rattle.lists.specs.Places.{Filled}
 use Rattle.lists.proofs.Places.{filled-none, filled-more}
 use Rattle.load.proofs.clear.Statement.{statement}
 use Rattle.load.proofs.clear.Tie as tie
 
 abbrev Inv-loop : tie.InvT-loop
-Inv-loop cells₀ k₀ cells k = (k ≤ 728) × Filled 0 (λ _. 0) cells₀ k cells
+Inv-loop cells₀ k₀ cells k = (k ≤ cellsLong) × Filled 0 (λ _. 0) cells₀ k cells
 
 abbrev μ-loop : tie.MeasureT-loop
-μ-loop cells₀ k₀ cells k = 728 - k
+μ-loop cells₀ k₀ cells k = cellsLong - k
 
 pub clear-spec : {M : Type 1} → statement M
 clear-spec =
@@ -36,7 +37,7 @@ clear-spec =
     (λ c. omega (arith, c .before .loop .inv .1 .long))
     (λ c.
     let l = c .before .loop in
-    let e : l .k ≡ 728 = le-antisymm (l .inv .0) (c .loop-test .left) in
-    let z = length-replicate {A = ℕ} 728 0 in
+    let e : l .k ≡ cellsLong = le-antisymm (l .inv .0) (c .loop-test .left) in
+    let z = length-replicate {A = ℕ} cellsLong 0 in
     ext-getD 0 (l .cells) _ (omega (arith, l .inv .1 .long))
-    (λ p h. l .inv .1 .done p (omega (arith, l .inv .1 .long)) ∙ sym (getD-replicate 728 p 0 0 (omega (arith, l .inv .1 .long))))))
+    (λ p h. l .inv .1 .done p (omega (arith, l .inv .1 .long)) ∙ sym (getD-replicate cellsLong p 0 0 (omega (arith, l .inv .1 .long))))))

@@ -6,16 +6,18 @@ use native.Mathlib.Nat.{le-antisymm}
 use native.Mathlib.Omega.{arith}
 use lib.ListN.{length, length-set, length-replicate}
 use borrow.Author.Needs.{needs}
+use Rattle.sizes.specs.Sizes.{mostPorts}
+use Rattle.cells.specs.Cells.{cellsLong}
 use Rattle.image.proofs.Load.{reads-long, reads-port}
 use Rattle.load.proofs.Restored.{Put, put-none, put-long, put-more, put-all}
 use Rattle.load.proofs.put.Statement.{statement}
 use Rattle.load.proofs.put.Tie as tie
 
 abbrev Inv-loop : tie.InvT-loop
-Inv-loop bytes cells₀ p₀ cells p = (p ≤ 48) × Put bytes p cells
+Inv-loop bytes cells₀ p₀ cells p = (p ≤ mostPorts) × Put bytes p cells
 
 abbrev μ-loop : tie.MeasureT-loop
-μ-loop bytes cells₀ p₀ cells p = 48 - p
+μ-loop bytes cells₀ p₀ cells p = mostPorts - p
 
 pub put-spec : {M : Type 1} → statement M
 put-spec =
@@ -25,9 +27,9 @@ put-spec =
     μ-loop
     (λ c κs. search needs)
     (λ c κs. omega (arith, reads-long _ (c .before .before .before .before .before .before .pre .0)))
-    (λ c. omega (arith, ap length (c .before .before .before .clear .ensures) ∙ length-replicate {A = ℕ} 728 0))
+    (λ c. omega (arith, ap length (c .before .before .before .clear .ensures) ∙ length-replicate {A = ℕ} cellsLong 0))
     (λ c κs. omega (arith, reads-long _ (c .before .before .before .before .before .before .before .pre .0)))
-    (λ c. simp length-set (omega (arith, ap length (c .before .before .before .before .clear .ensures) ∙ length-replicate {A = ℕ} 728 0)))
+    (λ c. simp length-set (omega (arith, ap length (c .before .before .before .before .clear .ensures) ∙ length-replicate {A = ℕ} cellsLong 0)))
     (λ c. (search needs, simp (c .before .before .before .before .clear .ensures, c .before .word-at .ensures, c .word-at2 .ensures) (put-none (c .before .before .before .before .before .before .before .before .args .bytes .now))))
     (λ c. omega arith)
     (λ c. omega arith)
@@ -48,5 +50,5 @@ put-spec =
     put-long (start .args .bytes .now) (l .p) (l .cells) (l .inv .1) ∙ sym (start .pre .1))
     (λ c.
     let l = c .before .loop in
-    let e : l .p ≡ 48 = le-antisymm (l .inv .0) (c .loop-test .left) in
+    let e : l .p ≡ mostPorts = le-antisymm (l .inv .0) (c .loop-test .left) in
     put-all (c .before .before .before .before .before .before .before .before .before .before .args .bytes .now) (l .cells) (rw e at (l .inv .1))))

@@ -11,6 +11,7 @@ use lib.Dec.{ltb, eqb}
 use lib.ListN.{length, getD}
 use borrow.Author.Needs.{needs}
 use denote.Ref.{now}
+use Rattle.sizes.specs.Sizes.{mostPorts}
 use Rattle.lists.specs.Every.{someBelow}
 use Rattle.lists.specs.Places.{Filled}
 use Rattle.lists.proofs.Places.{filled-none, filled-more, filled-below}
@@ -34,7 +35,7 @@ abbrev μ-loop : tie.MeasureT-loop
 μ-loop cells₀ n lane₀ left₀ p₀ cells lane left p = n - p
 
 -- the next place of the pass: its flags are those that the lane began with
-turn : (lane₀ l lane m : List ℕ) (p : ℕ) → m ≡ lookedCells p lane₀ l → Filled 0 (marks lane₀ l) lane₀ p lane → p < 48 → lookedAt (getD lane p 0) m p ≡ lookedAt (getD lane₀ p 0) l p
+turn : (lane₀ l lane m : List ℕ) (p : ℕ) → m ≡ lookedCells p lane₀ l → Filled 0 (marks lane₀ l) lane₀ p lane → p < mostPorts → lookedAt (getD lane p 0) m p ≡ lookedAt (getD lane₀ p 0) l p
 turn lane₀ l lane m p e F h =
     ap₂ (λ (f : ℕ) (x : List ℕ). lookedAt f x p) (F .left p (omega arith)) e ∙ looked-turn lane₀ l p (getD lane₀ p 0) h
 
@@ -63,7 +64,7 @@ sweep-all-spec =
     let lane₀ = now (s .args .lane) in
     let cells₀ = now (s .args .cells) in
     let q = c .before .before .before .sweep-port in
-    let small : l .p < 48 = omega (arith, s .pre .1) in
+    let small : l .p < mostPorts = omega (arith, s .pre .1) in
     let t = turn lane₀ cells₀ (l .lane) (l .cells) (l .p) (l .inv .1) (l .inv .2) small in
     let mark : q .result ≡ lookedAt (getD lane₀ (l .p) 0) cells₀ (l .p) .mark = q .ensures .0 ∙ ap (λ (x : Look). x .mark) t in
     let flags : getD (l .lane) (l .p) 0 ≡ getD lane₀ (l .p) 0 = l .inv .2 .left (l .p) (omega arith) in (
@@ -87,6 +88,6 @@ sweep-all-spec =
       ap (λ (x : ℕ). not (eqb x 0)) (rw e at (l .inv .3)) ∙ bits-some _,
       (
         rw e at (l .inv .1),
-        filled-below 0 (marks (now (s .args .lane)) (now (s .args .cells))) (now (s .args .lane)) 48 (s .args .n) (l .lane) (s .pre .2) (rw e at (l .inv .2)),
+        filled-below 0 (marks (now (s .args .lane)) (now (s .args .cells))) (now (s .args .lane)) mostPorts (s .args .n) (l .lane) (s .pre .2) (rw e at (l .inv .2)),
       ),
     )))

@@ -5,15 +5,16 @@ use native.Mathlib.Nat.{not-suc-le-zero}
 use native.Mathlib.Omega.{arith}
 use borrow.Author.Count.{below-more}
 use borrow.Author.Needs.{needs}
+use Rattle.sizes.specs.Sizes.{mostPorts}
 use Rattle.share.specs.Given.{demandOf}
 use Rattle.share.proofs.all_told.Statement.{statement}
 use Rattle.share.proofs.all_told.Tie as tie
 
 abbrev Inv-loop : tie.InvT-loop
-Inv-loop claims p₀ p = (p ≤ 48) × ((q : ℕ) → q < p → demandOf claims q < 2 ^ 16)
+Inv-loop claims p₀ p = (p ≤ mostPorts) × ((q : ℕ) → q < p → demandOf claims q < 2 ^ 16)
 
 abbrev μ-loop : tie.MeasureT-loop
-μ-loop claims p₀ p = 48 - p
+μ-loop claims p₀ p = mostPorts - p
 
 pub all-told-spec : {M : Type 1} → statement M
 unfolding demandOf

@@ -7,6 +7,7 @@ use lib.Dec.{eqb}
 use native.Mathlib.Omega.{arith}
 use lib.ListN.{getD, set}
 use borrow.Author.Needs.{needs}
+use Rattle.sizes.specs.Sizes.{mostPorts}
 use Rattle.lists.specs.Places.{tabulate, Filled}
 use Rattle.lists.proofs.Places.{filled-none, filled-more, filled-all}
 use Rattle.power.specs.Power.{sumOf, zeroPower}
@@ -19,12 +20,12 @@ use Rattle.share.proofs.in_turn.Tie as tie
 
 abbrev Inv-loop : tie.InvT-loop
 Inv-loop supply all sums₀ kept₀ p₀ sums kept p =
-    (p ≤ 48)
+    (p ≤ mostPorts)
     × ((sums ≡ tabulate 7 (λ k. sumOf (inLine (rankOf all) (demandOf all) p k)))
-    × Filled false (keeps 48 (rankOf all) (demandOf all) (supply .0)) kept₀ p kept)
+    × Filled false (keeps mostPorts (rankOf all) (demandOf all) (supply .0)) kept₀ p kept)
 
 abbrev μ-loop : tie.MeasureT-loop
-μ-loop supply all sums₀ kept₀ p₀ sums kept p = 48 - p
+μ-loop supply all sums₀ kept₀ p₀ sums kept p = mostPorts - p
 
 loop-holds : tie.Need-loop-holds Inv-loop μ-loop
 loop-holds c =
@@ -46,7 +47,7 @@ loop-again c =
     let small : Small (demandOf all) = start .pre in
     let slot = c .before .before .before .slot in
     let d = getD (all .demands) (at .p) zeroPower in
-    let l : at .p < 48 = omega arith in
+    let l : at .p < mostPorts = omega arith in
     let below : line (at .p) (slot .result) + d .0 < 2 ^ 32 =
     omega (
       arith,
@@ -67,14 +68,14 @@ loop-again c =
         filled-more _ _ _ _ _ _ (at .inv .1 .1) l
             (c .within .ensures
             ∙ ap (λ s. within s (rankOf all (at .p)) (start .args .supply)) here
-            ∙ turn-kept 48 (rankOf all) (demandOf all) (start .args .supply) (at .p) l),
+            ∙ turn-kept mostPorts (rankOf all) (demandOf all) (start .args .supply) (at .p) l),
       ),
     )
 
 returns : tie.Need-returns Inv-loop μ-loop
 returns c =
-    let e : c .before .loop .p ≡ 48 = omega arith in
-    filled-all _ _ _ 48 _ refl (rw e at (c .before .loop .inv .1 .1))
+    let e : c .before .loop .p ≡ mostPorts = omega arith in
+    filled-all _ _ _ mostPorts _ refl (rw e at (c .before .loop .inv .1 .1))
 
 pub in-turn-spec : {M : Type 1} → statement M
 in-turn-spec =

@@ -7,6 +7,7 @@ use mathlib.Core.Bool.{cond}
 use lib.Dec.{eqb}
 use lib.ListN.{getD, set}
 use borrow.Author.Needs.{needs}
+use Rattle.sizes.specs.Sizes.{mostPorts}
 use Rattle.lists.specs.Places.{tabulate}
 use Rattle.power.specs.Power.{sumOf, zeroPower}
 use Rattle.share.specs.Given.{rankOf, demandOf}
@@ -16,10 +17,10 @@ use Rattle.share.proofs.rank_sums.Statement.{statement}
 use Rattle.share.proofs.rank_sums.Tie as tie
 
 abbrev Inv-loop : tie.InvT-loop
-Inv-loop all sums₀ p₀ sums p = (p ≤ 48) × (sums ≡ tabulate 7 (λ k. sumOf (ofSlot p (rankOf all) (demandOf all) k)))
+Inv-loop all sums₀ p₀ sums p = (p ≤ mostPorts) × (sums ≡ tabulate 7 (λ k. sumOf (ofSlot p (rankOf all) (demandOf all) k)))
 
 abbrev μ-loop : tie.MeasureT-loop
-μ-loop all sums₀ p₀ sums p = 48 - p
+μ-loop all sums₀ p₀ sums p = mostPorts - p
 
 loop-holds : tie.Need-loop-holds Inv-loop μ-loop
 unfolding tabulate
@@ -33,7 +34,7 @@ loop-again c =
     let small : Small (demandOf all) = c .before .before .before .before .before .before .before .pre in
     let k = c .before .before .slot .result in
     let d = getD (all .demands) (at .p) zeroPower in
-    let l : at .p < 48 = omega arith in (
+    let l : at .p < mostPorts = omega arith in (
       omega arith,
       ap (set (at .sums) k) (c .plus .ensures)
           ∙ more-at 7 (ofSlot (at .p) (rankOf all) (demandOf all)) (ofSlot (at .p + 1) (rankOf all) (demandOf all)) k d
@@ -47,7 +48,7 @@ loop-again c =
 
 returns : tie.Need-returns Inv-loop μ-loop
 returns c =
-    let e : c .before .loop .p ≡ 48 = omega arith in
+    let e : c .before .loop .p ≡ mostPorts = omega arith in
     rw e at (c .before .loop .inv .1)
 
 pub rank-sums-spec : {M : Type 1} → statement M

@@ -7,6 +7,7 @@ use native.Mathlib.Nat.{le-antisymm}
 use native.Mathlib.Omega.{arith}
 use borrow.Author.Needs.{needs}
 use borrow.Author.Tests.{eq-eqb, ne-eqb, not-true, not-false}
+use Rattle.sizes.specs.Sizes.{mostPorts}
 use Rattle.lists.specs.Every.{every}
 use Rattle.lists.proofs.Every.{every-next, every-not}
 use Rattle.image.specs.Image.{portSaves, imageable}
@@ -14,10 +15,10 @@ use Rattle.store.proofs.imageable.Statement.{statement}
 use Rattle.store.proofs.imageable.Tie as tie
 
 abbrev Inv-loop : tie.InvT-loop
-Inv-loop cells p₀ p = (p ≤ 48) × (every p (portSaves cells) ≡ true)
+Inv-loop cells p₀ p = (p ≤ mostPorts) × (every p (portSaves cells) ≡ true)
 
 abbrev μ-loop : tie.MeasureT-loop
-μ-loop cells p₀ p = 48 - p
+μ-loop cells p₀ p = mostPorts - p
 
 pub imageable-spec : {M : Type 1} → statement M
 unfolding imageable every
@@ -34,7 +35,7 @@ imageable-spec =
     let now = c .before .before .before .before .before .before .args .cells .now in
     simp (
       eq-eqb _ _ (c .before .before .before .before .if1 .left),
-      every-not 48 (portSaves now) at (c .before .before .loop-test .taken) (sym (c .before .port-saves .ensures) ∙ not-true (c .before .port-saves .result) (c .if2 .taken)),
+      every-not mostPorts (portSaves now) at (c .before .before .loop-test .taken) (sym (c .before .port-saves .ensures) ∙ not-true (c .before .port-saves .result) (c .if2 .taken)),
     ))
     (λ c. search needs)
     (λ c. search needs)
@@ -44,5 +45,5 @@ imageable-spec =
     ))
     (λ c.
     let now = c .before .before .before .before .args .cells .now in
-    let e : every 48 (portSaves now) ≡ true = ap (λ (k : ℕ). every k (portSaves now)) (le-antisymm (c .loop-test .left) (c .before .loop .inv .0)) ∙ c .before .loop .inv .1 in
+    let e : every mostPorts (portSaves now) ≡ true = ap (λ (k : ℕ). every k (portSaves now)) (le-antisymm (c .loop-test .left) (c .before .loop .inv .0)) ∙ c .before .loop .inv .1 in
     simp (eq-eqb _ _ (c .before .before .if1 .left), e)))

@@ -7,6 +7,7 @@ use native.Mathlib.Nat.{le-antisymm, le-trans}
 use native.Mathlib.Omega.{arith}
 use lib.Count.{ones, ones-le}
 use denote.Ref.{now}
+use Rattle.sizes.specs.Sizes.{mostPorts}
 use Rattle.lists.specs.Count.{mask}
 use Rattle.lists.proofs.Count.{mask-below, mask-join}
 use Rattle.lists.specs.Total.{total}
@@ -25,7 +26,7 @@ abbrev μ-loop : tie.MeasureT-loop
 below : (m x : ℕ) (f : ℕ → Bool) → x ≡ mask m f → x < 2 ^ m
 below m x f e = rw e (mask-below m f)
 
-few : (k x : ℕ) (f : ℕ → Bool) → x ≡ mask (8 * k) f → k ≤ 6 → ones x ≤ 48
+few : (k x : ℕ) (f : ℕ → Bool) → x ≡ mask (8 * k) f → k ≤ 6 → ones x ≤ mostPorts
 few k x f e h = le-trans (ones-le (8 * k) x (below (8 * k) x f e)) (omega arith)
 
 -- a byte above the mask so far is the mask of eight places more

@@ -10,6 +10,7 @@ use lib.Dec.{ltb}
 use borrow.Author.Needs.{needs}
 use borrow.Author.Tests.{lt-ltb, le-ltb}
 use denote.Ref.{now}
+use Rattle.sizes.specs.Sizes.{mostPorts}
 use Rattle.lists.specs.Places.{Filled}
 use Rattle.lists.proofs.Places.{filled-none, filled-more, filled-all}
 use Rattle.cells.specs.Cells.{portOf}
@@ -29,10 +30,10 @@ abbrev μ-loop : tie.MeasureT-loop
 
 -- the second loop goes on with the lane that the first one left
 abbrev Inv-loop2 : tie.InvT-loop2
-Inv-loop2 cells n lane₀ p₀ lane p = (n ≤ p) × (p ≤ 48) × ((old : List ℕ) → Filled 0 (at n cells) old p₀ lane₀ → Filled 0 (at n cells) old p lane)
+Inv-loop2 cells n lane₀ p₀ lane p = (n ≤ p) × (p ≤ mostPorts) × ((old : List ℕ) → Filled 0 (at n cells) old p₀ lane₀ → Filled 0 (at n cells) old p lane)
 
 abbrev μ-loop2 : tie.MeasureT-loop2
-μ-loop2 cells n lane₀ p₀ lane p = 48 - p
+μ-loop2 cells n lane₀ p₀ lane p = mostPorts - p
 
 pub sides-spec : {M : Type 1} → statement M
 unfolding sideLane portOf
@@ -80,6 +81,6 @@ sides-spec =
     (λ c.
     let l = c .before .loop2 in
     let s = c .before .before .before .before .before .before in
-    let e : l .p ≡ 48 = le-antisymm (l .inv .1) (c .loop2-test .left) in
+    let e : l .p ≡ mostPorts = le-antisymm (l .inv .1) (c .loop2-test .left) in
     let F = l .inv .2 (now (s .args .lane)) (c .before .before .before .loop .inv .1) in
-    filled-all 0 (at (s .args .n) (now (s .args .cells))) (now (s .args .lane)) 48 (l .lane) (s .pre .2) (rw e at F)))
+    filled-all 0 (at (s .args .n) (now (s .args .cells))) (now (s .args .lane)) mostPorts (l .lane) (s .pre .2) (rw e at F)))

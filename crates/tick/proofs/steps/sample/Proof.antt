@@ -6,6 +6,7 @@ use Prim.Native.Nat.{ℕ, _*_, _/_, _<_}
 use lib.ListN.{length}
 use borrow.Author.Needs.{needs}
 use borrow.Author.Tests.{lt-ltb}
+use Rattle.sizes.specs.Sizes.{sampleBytes}
 use Rattle.sample.specs.Sample.{sampleAt, sampleOf}
 use Rattle.sample.specs.declared.Sample.{Sample}
 use Rattle.sample.specs.declared.Sampled.{Sampled}
@@ -19,9 +20,9 @@ got (Is s) d = s
 got Cut d = d
 
 -- a block that has the port's bytes gives its sample
-whole : (block : List ℕ) (port : ℕ) → port < length block / 14 → sampleOf block port ≡ Is (sampleAt block (14 * port))
+whole : (block : List ℕ) (port : ℕ) → port < length block / sampleBytes → sampleOf block port ≡ Is (sampleAt block (sampleBytes * port))
 unfolding sampleOf
-whole block port h = simp (lt-ltb port (length block / 14) h)
+whole block port h = simp (lt-ltb port (length block / sampleBytes) h)
 
 nothing : Sample
 nothing = record { v1 = 0; v2 = 0; i1 = 0; i2 = 0; c1 = 0; c2 = 0; flags = 0 }

@@ -10,6 +10,7 @@ use native.Mathlib.Omega.{arith}
 use lib.ListN.{getD}
 use borrow.Author.Needs.{needs}
 use denote.Ref.{now}
+use Rattle.sizes.specs.Sizes.{mostPorts}
 use Rattle.lists.specs.Bits.{one}
 use Rattle.lists.specs.Every.{someBelow}
 use Rattle.lists.specs.Places.{Filled}
@@ -131,6 +132,6 @@ steps-spec =
       rw e at (l .inv .3),
       (
         come-all (s .args .n) (steppedPort lane₀ block cells₀) cells₀ (s .pre .1) (s .pre .0) (l .cells) (rw e at (l .inv .1)),
-        filled-below 0 (asking lane₀ block cells₀) lane₀ 48 (s .args .n) (l .lane) (s .pre .3) (rw e at (l .inv .2)),
+        filled-below 0 (asking lane₀ block cells₀) lane₀ mostPorts (s .args .n) (l .lane) (s .pre .3) (rw e at (l .inv .2)),
       ),
     )))
