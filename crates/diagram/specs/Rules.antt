@@ -17,6 +17,7 @@ use Rattle.port.specs.declared.form.Classing.{Classing}
 use Rattle.port.specs.declared.form.Classing.the-variants.{NotDone as NotClassed, Failed, Is}
 use Rattle.port.specs.declared.form.Reading.{Reading}
 use Rattle.port.specs.declared.form.Moved.{Moved}
+use Rattle.diagram.specs.Limits.{detectingEnds, backoffEnds, errorDelayEnds, classifyingEnds, powerUpEnds, faultBy, loadAbsent}
 use Rattle.port.specs.Form.{withClass, withDemand, withCounts, detectionAt, backoffAt, errorDelayAt, powerOnAt, limitingAt, overloadAt, noLoadAt, quietly, latching, asking, latchValid, latchInvalid, latchShort, latchOverload, latchAbsent}
 use Rattle.port.specs.Entry.{up, during, enter}
 
@@ -26,29 +27,6 @@ isB Neither = false
 isB A = false
 isB B = true
 isB Both = false
-
--- the limits of the counters: "at 500", "at 2,000", "at 750", "at 400" twice, "60 of limiting", "60 of overload", "320 consecutive
--- ticks without load"; each "is compared "at or over""
-abbrev pub detectingEnds : ℕ → Bool
-detectingEnds n = leb 500 n
-
-abbrev pub backoffEnds : ℕ → Bool
-backoffEnds n = leb 2000 n
-
-abbrev pub errorDelayEnds : ℕ → Bool
-errorDelayEnds n = leb 750 n
-
-abbrev pub classifyingEnds : ℕ → Bool
-classifyingEnds n = leb 400 n
-
-abbrev pub powerUpEnds : ℕ → Bool
-powerUpEnds n = leb 400 n
-
-abbrev pub faultBy : ℕ → Bool
-faultBy n = leb 60 n
-
-abbrev pub loadAbsent : ℕ → Bool
-loadAbsent n = leb 320 n
 
 -- "IDLE: enable 01 to DETECTING, class set to 0; enable 10 asks for TEST_MODE, demand 154." The claim is the board's
 unfoldable pub idle : Power → Port → Moved

@@ -21,7 +21,8 @@ use Rattle.port.specs.declared.form.State.the-variants.{Disabled, Idle, Detecti
 use Rattle.port.specs.Form.{withClass, withDemand, withCounts, detectionAt, backoffAt, errorDelayAt, powerOnAt, noLoadAt, quietly, latching, asking, latchValid, latchInvalid, latchShort, latchOverload, latchAbsent}
 use Rattle.port.specs.Entry.{up, during, enter}
 use Rattle.port.specs.States.{closed, inTest, givesWay}
-use Rattle.diagram.specs.Rules.{isB, detectingEnds, backoffEnds, errorDelayEnds, classifyingEnds, powerUpEnds, faultBy, loadAbsent, idle, detected, detecting, backoff, errorDelay, classed, classifying, stressed, watched, risen, powerUp, powerOn, testMode, testError}
+use Rattle.diagram.specs.Limits.{detectingEnds, backoffEnds, errorDelayEnds, classifyingEnds, powerUpEnds, faultBy, loadAbsent}
+use Rattle.diagram.specs.Rules.{isB, idle, detected, detecting, backoff, errorDelay, classed, classifying, stressed, watched, risen, powerUp, powerOn, testMode, testError}
 use Rattle.diagram.specs.Step.{byState, step}
 
 -- "A counter runs only in the states named for it and otherwise stands still"

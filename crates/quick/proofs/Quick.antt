@@ -28,7 +28,8 @@ use Rattle.quick.specs.declared.Glance.the-variants.{Counted, Whole}
 use Rattle.quick.specs.declared.Signs.{Signs}
 use Rattle.port.specs.Form.{withCounts, detectionAt, backoffAt, errorDelayAt, powerOnAt, limitingAt, overloadAt, noLoadAt, quietly}
 use Rattle.port.specs.Entry.{up, during, enter}
-use Rattle.diagram.specs.Rules.{detectingEnds, backoffEnds, errorDelayEnds, classifyingEnds, powerUpEnds, faultBy, loadAbsent, detected, detecting, backoff, errorDelay, classed, classifying, stressed, watched, risen, powerUp, powerOn, testMode, testError}
+use Rattle.diagram.specs.Limits.{detectingEnds, backoffEnds, errorDelayEnds, classifyingEnds, powerUpEnds, faultBy, loadAbsent}
+use Rattle.diagram.specs.Rules.{detected, detecting, backoff, errorDelay, classed, classifying, stressed, watched, risen, powerUp, powerOn, testMode, testError}
 use Rattle.port.specs.States.{givesWay}
 use Rattle.diagram.specs.Step.{byState, step}
 

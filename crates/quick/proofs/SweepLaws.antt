@@ -1,6 +1,6 @@
 -- What is proved of specs/Sweep.
 -- Assumes nothing.
-use Prim.Native.Nat.{ℕ, zero, suc, _+_, _*_, _%_, _≤_, _<_, min}
+use Prim.Native.Nat.{ℕ, zero, suc, _+_, _*_, _%_, _≤_, _<_, min, _-_}
 use mathlib.Core.Path.{_≡_, refl, sym, _∙_, ap, ap₂}
 use mathlib.Core.Bool.{Bool, true, false, cond, not, _&&_, _||_, or-false}
 use mathlib.Core.List.{List}
@@ -10,6 +10,7 @@ use native.Mathlib.Omega.{arith}
 use lib.Dec.{eqb, leb, ltb}
 use lib.ListN.{length, getD}
 use borrow.Author.Tests.{lt-ltb, le-ltb, le-leb, lt-leb, ltb-true, ltb-false, leb-true, leb-false, eqb-true}
+use Rattle.diagram.specs.Limits.{backoffTicks, classifyingTicks, detectingTicks, errorDelayTicks, faultTicks, noLoadTicks, powerUpTicks}
 use Rattle.sizes.specs.Sizes.{mostCount, mostPorts}
 use Rattle.lists.proofs.Tests.{and-left, and-right}
 use Rattle.power.specs.Power.{tenths, same}
@@ -124,28 +125,28 @@ module _ (s : Signs) (c : Counts) where
   gone′ = running (not (s .load)) (c .«no_load»)
 
   abbrev calm′ : Bool
-  calm′ = ltb lim′ 60 && ltb ovl′ 60
+  calm′ = ltb lim′ faultTicks && ltb ovl′ faultTicks
 
   module _ (w : Small c) where
     calm-is : calm′ ≡ calm (stressedBy s c)
-    calm-is = ap₂ _&&_ (run-below 60 (c .limiting) (w .limiting) (omega arith) (omega arith) (s .limiting)) (run-below 60 (c .overload) (w .overload) (omega arith) (omega arith) (s .overload))
+    calm-is = ap₂ _&&_ (run-below faultTicks (c .limiting) (w .limiting) (omega arith) (omega arith) (s .limiting)) (run-below faultTicks (c .overload) (w .overload) (omega arith) (omega arith) (s .overload))
 
     -- where both runs are below their limit, they are the definition's
     lim-is : calm′ ≡ true → lim′ ≡ during (s .limiting) (c .limiting)
-    lim-is e = run-during 60 (c .limiting) (w .limiting) (omega arith) (omega arith) (s .limiting) (and-left (ltb lim′ 60) (ltb ovl′ 60) e)
+    lim-is e = run-during faultTicks (c .limiting) (w .limiting) (omega arith) (omega arith) (s .limiting) (and-left (ltb lim′ faultTicks) (ltb ovl′ faultTicks) e)
 
     ovl-is : calm′ ≡ true → ovl′ ≡ during (s .overload) (c .overload)
-    ovl-is e = run-during 60 (c .overload) (w .overload) (omega arith) (omega arith) (s .overload) (and-right (ltb lim′ 60) (ltb ovl′ 60) e)
+    ovl-is e = run-during faultTicks (c .overload) (w .overload) (omega arith) (omega arith) (s .overload) (and-right (ltb lim′ faultTicks) (ltb ovl′ faultTicks) e)
 
     chosen-rise : (t : Bool) → (t ≡ true → calm′ ≡ true) → (t ≡ true → c .«power_on» < mostCount)
         → record { counts = powerOnAt (counted t (c .«power_on»)) (limitingAt (cond t lim′ (c .limiting)) (overloadAt (cond t ovl′ (c .overload)) c)); mark = cond t 0 65535 } ≡ shown (only t (powerOnAt (up (c .«power_on»)) (stressedBy s c))) c
     chosen-rise true q h = simp (wrapped-up (c .«power_on») (h refl), lim-is (q refl), ovl-is (q refl))
     chosen-rise false q h = refl
 
-    chosen-stay : (t : Bool) → (t ≡ true → calm′ ≡ true) → (t ≡ true → ltb gone′ 320 ≡ true)
+    chosen-stay : (t : Bool) → (t ≡ true → calm′ ≡ true) → (t ≡ true → ltb gone′ noLoadTicks ≡ true)
         → record { counts = noLoadAt (cond t gone′ (c .«no_load»)) (limitingAt (cond t lim′ (c .limiting)) (overloadAt (cond t ovl′ (c .overload)) c)); mark = cond t 0 65535 } ≡ shown (only t (noLoadAt (during (not (s .load)) (c .«no_load»)) (stressedBy s c))) c
     chosen-stay true q h =
-        simp (lim-is (q refl), ovl-is (q refl), run-during 320 (c .«no_load») (w .no-load) (omega arith) (omega arith) (not (s .load)) (h refl))
+        simp (lim-is (q refl), ovl-is (q refl), run-during noLoadTicks (c .«no_load») (w .no-load) (omega arith) (omega arith) (not (s .load)) (h refl))
     chosen-stay false q h = refl
 
     chosen-test : (t : Bool) → (t ≡ true → calm′ ≡ true)
@@ -167,29 +168,29 @@ module _ (s : Signs) (c : Counts) where
     look-is Idle (suc (suc zero)) d h = refl
     look-is Detecting zero d h = refl
     look-is Detecting (suc zero) d h =
-        simp (or-false, early 499 (c .detection) (omega arith)) (chosen-detection (not (s .detected) && ltb (c .detection) 499) c (below (c .detection) 499 (not (s .detected)) (omega arith)))
+        simp (or-false, early (detectingTicks - 1) (c .detection) (omega arith)) (chosen-detection (not (s .detected) && ltb (c .detection) (detectingTicks - 1)) c (below (c .detection) (detectingTicks - 1) (not (s .detected)) (omega arith)))
     look-is Detecting (suc (suc zero)) d h = refl
     look-is Backoff zero d h = refl
-    look-is Backoff (suc zero) d h = simp (or-false, early 1999 (c .backoff) (omega arith)) (chosen-backoff (ltb (c .backoff) 1999) c (below (c .backoff) 1999 true (omega arith)))
-    look-is Backoff (suc (suc zero)) d h = simp (or-false, early 1999 (c .backoff) (omega arith)) (chosen-backoff (ltb (c .backoff) 1999) c (below (c .backoff) 1999 true (omega arith)))
+    look-is Backoff (suc zero) d h = simp (or-false, early (backoffTicks - 1) (c .backoff) (omega arith)) (chosen-backoff (ltb (c .backoff) (backoffTicks - 1)) c (below (c .backoff) (backoffTicks - 1) true (omega arith)))
+    look-is Backoff (suc (suc zero)) d h = simp (or-false, early (backoffTicks - 1) (c .backoff) (omega arith)) (chosen-backoff (ltb (c .backoff) (backoffTicks - 1)) c (below (c .backoff) (backoffTicks - 1) true (omega arith)))
     look-is Classifying zero d h = refl
     look-is Classifying (suc zero) d h =
-        simp (or-false, early 399 (c .«power_on») (omega arith)) (chosen-class (not (s .classed) && ltb (c .«power_on») 399) c (below (c .«power_on») 399 (not (s .classed)) (omega arith)))
+        simp (or-false, early (classifyingTicks - 1) (c .«power_on») (omega arith)) (chosen-class (not (s .classed) && ltb (c .«power_on») (classifyingTicks - 1)) c (below (c .«power_on») (classifyingTicks - 1) (not (s .classed)) (omega arith)))
     look-is Classifying (suc (suc zero)) d h = refl
     look-is PowerUp zero d h = refl
     look-is PowerUp (suc zero) d h =
-        let t = not (s .settled) && ltb (c .«power_on») 399 in
-        simp (or-false, early 399 (c .«power_on») (omega arith), ← calm-is)
-        (chosen-rise (t && calm′) (and-right t calm′) (λ e. below (c .«power_on») 399 (not (s .settled)) (omega arith) (and-left t calm′ e)))
+        let t = not (s .settled) && ltb (c .«power_on») (powerUpTicks - 1) in
+        simp (or-false, early (powerUpTicks - 1) (c .«power_on») (omega arith), ← calm-is)
+        (chosen-rise (t && calm′) (and-right t calm′) (λ e. below (c .«power_on») (powerUpTicks - 1) (not (s .settled)) (omega arith) (and-left t calm′ e)))
     look-is PowerUp (suc (suc zero)) d h = refl
     look-is PowerOn zero d h = refl
     look-is PowerOn (suc zero) d h =
-        simp (or-false, ← run-below 320 (c .«no_load») (w .no-load) (omega arith) (omega arith) (not (s .load)), ← calm-is)
-        (chosen-stay (ltb gone′ 320 && calm′) (and-right (ltb gone′ 320) calm′) (and-left (ltb gone′ 320) calm′))
+        simp (or-false, ← run-below noLoadTicks (c .«no_load») (w .no-load) (omega arith) (omega arith) (not (s .load)), ← calm-is)
+        (chosen-stay (ltb gone′ noLoadTicks && calm′) (and-right (ltb gone′ noLoadTicks) calm′) (and-left (ltb gone′ noLoadTicks) calm′))
     look-is PowerOn (suc (suc zero)) d h = refl
     look-is ErrorDelay zero d h = refl
-    look-is ErrorDelay (suc zero) d h = simp (or-false, early 749 (c .«error_delay») (omega arith)) (chosen-delay (ltb (c .«error_delay») 749) c (below (c .«error_delay») 749 true (omega arith)))
-    look-is ErrorDelay (suc (suc zero)) d h = simp (or-false, early 749 (c .«error_delay») (omega arith)) (chosen-delay (ltb (c .«error_delay») 749) c (below (c .«error_delay») 749 true (omega arith)))
+    look-is ErrorDelay (suc zero) d h = simp (or-false, early (errorDelayTicks - 1) (c .«error_delay») (omega arith)) (chosen-delay (ltb (c .«error_delay») (errorDelayTicks - 1)) c (below (c .«error_delay») (errorDelayTicks - 1) true (omega arith)))
+    look-is ErrorDelay (suc (suc zero)) d h = simp (or-false, early (errorDelayTicks - 1) (c .«error_delay») (omega arith)) (chosen-delay (ltb (c .«error_delay») (errorDelayTicks - 1)) c (below (c .«error_delay») (errorDelayTicks - 1) true (omega arith)))
     look-is TestMode zero d h = refl
     look-is TestMode (suc zero) d h = refl
     look-is TestMode (suc (suc zero)) d h = simp (or-false, ← calm-is) (chosen-test calm′ (λ e. e))

@@ -2,11 +2,12 @@
 -- whole step: what the code does with numbers, so that a compiler does it for eight ports at once. A reader of the move needs none of
 -- this: `step` is its meaning, `quickly` says which moves only count, and `looked-is` says that the pass agrees with it.
 -- Assumes nothing.
-use Prim.Native.Nat.{ℕ, zero, suc, _+_, _*_, _/_, _%_, _^_}
+use Prim.Native.Nat.{ℕ, zero, suc, _+_, _*_, _/_, _%_, _^_, _-_}
 use mathlib.Core.Bool.{Bool, cond, not, _&&_, _||_}
 use mathlib.Core.List.{List}
 use lib.Dec.{eqb, leb, ltb}
 use lib.ListN.{length, getD}
+use Rattle.diagram.specs.Limits.{backoffTicks, classifyingTicks, detectingTicks, errorDelayTicks, faultTicks, noLoadTicks, powerUpTicks}
 use Rattle.sizes.specs.Sizes.{mostPorts}
 use Rattle.lists.specs.Every.{someBelow}
 use Rattle.lists.specs.Places.{tabulate}
@@ -55,25 +56,25 @@ module _ (k e d : ℕ) (s : Signs) (c : Counts) where
   gone = running (not (s .load)) (c .«no_load»)
 
   abbrev calmly : Bool
-  calmly = ltb lim 60 && ltb ovl 60
+  calmly = ltb lim faultTicks && ltb ovl faultTicks
 
   abbrev detects : Bool
-  detects = (eqb key 18 && not (s .detected)) && ltb (c .detection) 499
+  detects = (eqb key 18 && not (s .detected)) && ltb (c .detection) (detectingTicks - 1)
 
   abbrev backs : Bool
-  backs = (eqb k 3 && not (eqb e 0)) && ltb (c .backoff) 1999
+  backs = (eqb k 3 && not (eqb e 0)) && ltb (c .backoff) (backoffTicks - 1)
 
   abbrev classes : Bool
-  classes = (eqb key 20 && not (s .classed)) && ltb (c .«power_on») 399
+  classes = (eqb key 20 && not (s .classed)) && ltb (c .«power_on») (classifyingTicks - 1)
 
   abbrev rises : Bool
-  rises = ((eqb key 21 && not (s .settled)) && ltb (c .«power_on») 399) && calmly
+  rises = ((eqb key 21 && not (s .settled)) && ltb (c .«power_on») (powerUpTicks - 1)) && calmly
 
   abbrev stays : Bool
-  stays = (eqb key 22 && ltb gone 320) && calmly
+  stays = (eqb key 22 && ltb gone noLoadTicks) && calmly
 
   abbrev delays : Bool
-  delays = (eqb k 7 && not (eqb e 0)) && ltb (c .«error_delay») 749
+  delays = (eqb k 7 && not (eqb e 0)) && ltb (c .«error_delay») (errorDelayTicks - 1)
 
   abbrev tests : Bool
   tests = eqb key 40 && calmly
