@@ -23,7 +23,7 @@ use Rattle.port.specs.declared.form.Port.{Port}
 use Rattle.share.proofs.Laws.{more-keeps, kept-sum-fits}
 use Rattle.share.specs.Share.{noClaim, keeps, sumWhere, keptSum}
 use Rattle.table.specs.Drawn.{closedAt, draws, closedSum}
-use Rattle.table.specs.Form.{noPort, portAt}
+use Rattle.table.specs.Parts.{noPort, portAt}
 use Rattle.table.specs.declared.form.Table.{Table}
 use Rattle.boards.proofs.Settled.{settled-mono, settled-draws, settled-latches, no-claim-open}
 use Rattle.boards.specs.Sharing.{rankAt, claimAt, keptAt, settledAt, portAfter, latchedAt, tableAfter}

@@ -1,4 +1,4 @@
 pub mod Laws
 pub mod MaskLaws
 pub mod Settled
-pub mod Well
+pub mod SettlesWell

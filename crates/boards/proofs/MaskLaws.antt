@@ -17,8 +17,8 @@ use Rattle.control.specs.declared.Pair.{Pair}
 use Rattle.control.specs.declared.Pair.the-variants.{Neither, A, B, Both}
 use Rattle.port.specs.States.{closed}
 use Rattle.table.specs.Drawn.{closedAt}
-use Rattle.table.specs.Form.{portAt}
-use Rattle.table.proofs.Well.{WellTable, table-of}
+use Rattle.table.specs.Parts.{portAt}
+use Rattle.table.proofs.WellMadePorts.{WellTable, table-of}
 use Rattle.table.specs.WellMade.{wellMade}
 use Rattle.table.specs.declared.form.Table.{Table}
 use Rattle.boards.specs.Masks.{namesA, namesB, maskA, maskB}

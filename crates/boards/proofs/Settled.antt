@@ -8,13 +8,13 @@ use native.Mathlib.Nat.{le-refl, le-trans, le-of-eq}
 use native.Mathlib.Omega.{arith}
 use lib.Dec.{leb}
 use borrow.Author.Tests.{leb-true}
-use Rattle.lists.specs.Tests.{choice}
+use Rattle.lists.proofs.Tests.{choice}
 use Rattle.power.specs.declared.Power.{Power}
 use Rattle.control.specs.Control.{priorityOf}
 use Rattle.status.proofs.Laws.{join-none}
 use Rattle.status.specs.Status.{noLatches, join}
 use Rattle.port.specs.Entry.{enter}
-use Rattle.port.specs.Form.{quietly, latchDenied}
+use Rattle.port.specs.Changes.{quietly, latchDenied}
 use Rattle.port.specs.States.{closed, inTest}
 use Rattle.settling.proofs.Claim.{urgency-small}
 use Rattle.settling.specs.Settle.{urgency, rank, granted, shed, settled}
@@ -116,13 +116,13 @@ granted-latches TestError p = refl
 pub settled-latches : (r : ℕ) (k : Bool) (m : Moved) → settled r k m .port .latches ≡ join (m .port .latches) (settled r k m .latched)
 unfolding settled shed enter
 settled-latches r k m =
-    choice Told (leb noClaim r) (quietly (m .port)) _ none
-    (choice Told k (quietly (cond (m .asks) (granted (m .port .state) (m .port)) (m .port))) (shed (m .port))
+    choice Replied (leb noClaim r) (quietly (m .port)) _ none
+    (choice Replied k (quietly (cond (m .asks) (granted (m .port .state) (m .port)) (m .port))) (shed (m .port))
     (choice (λ (x : Port). x .latches ≡ join (m .port .latches) noLatches) (m .asks) (granted (m .port .state) (m .port)) (m .port) (granted-latches (m .port .state) (m .port) ∙ none) none)
     (choice (λ (x : Port). join (x .latches) latchDenied ≡ join (m .port .latches) latchDenied) (inTest (m .port .state)) (enter TestError (m .port)) (enter Idle (m .port)) refl refl))
   where
-    Told : Moved → Type 0
-    Told x = x .port .latches ≡ join (m .port .latches) (x .latched)
+    Replied : Moved → Type 0
+    Replied x = x .port .latches ≡ join (m .port .latches) (x .latched)
 
     none : m .port .latches ≡ join (m .port .latches) noLatches
     none = join-none (m .port .latches)

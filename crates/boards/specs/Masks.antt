@@ -8,7 +8,7 @@ use Rattle.control.specs.Control.{pairOf}
 use Rattle.control.specs.declared.Pair.{Pair}
 use Rattle.control.specs.declared.Pair.the-variants.{Neither, A, B, Both}
 use Rattle.table.specs.Drawn.{closedAt}
-use Rattle.table.specs.Form.{portAt}
+use Rattle.table.specs.Parts.{portAt}
 use Rattle.table.specs.declared.form.Closed.the-variants.{Ports}
 use Rattle.table.specs.declared.form.Table.{Table}
 use Rattle.table.specs.declared.form.Ticked.{Ticked}

@@ -13,7 +13,7 @@ use Rattle.port.specs.declared.form.Moved.{Moved}
 use Rattle.port.specs.declared.form.Port.{Port}
 use Rattle.settling.specs.Settle.{rank, settled}
 use Rattle.share.specs.Share.{noClaim, keeps}
-use Rattle.table.specs.Form.{portAt}
+use Rattle.table.specs.Parts.{portAt}
 use Rattle.table.specs.declared.form.Table.{Table}
 
 -- a table, and the move of the port at each place below the count

@@ -21,14 +21,14 @@ ghost use Rattle.power.specs.Power.{sumOf};
 ghost use Rattle.status.specs.Status.{statusWord};
 ghost use Rattle.port.specs.States.{closed, condition, inDisabled};
 ghost use Rattle.table.specs.Drawn.{closedSum};
-ghost use Rattle.table.specs.Form.{portAt};
+ghost use Rattle.table.specs.Parts.{portAt};
 ghost use Rattle.cells.specs.Cells.{cellsLong, tableOf, cellsOf};
 ghost use Rattle.cells.specs.Codes.{stateOf};
 ghost use Rattle.cells.specs.Lent.{cellsTold, cellsRead, cellsCold};
 ghost use Rattle.replies.specs.Calls.{coldTable, sameAlternative, levelOf, granting, overSupply};
 ghost use Rattle.replies.specs.Cold.{coldCell};
 ghost use Rattle.replies.specs.OnCells.{startOn, controlOn, statusOn, requestOn};
-ghost use Rattle.replies.specs.OnLaws.{AtPort, controlRest, requestRest};
+ghost use Rattle.replies.specs.Rest.{AtPort, controlRest, requestRest};
 
 // Enable 00, alternative A, priority unknown.
 const COLD: u16 = 0x0004;

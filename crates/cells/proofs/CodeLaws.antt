@@ -11,8 +11,8 @@ use Rattle.lists.specs.Bits.{bit}
 use Rattle.lists.proofs.Bits.{one-small, one-says}
 use Rattle.lists.specs.Places.{tabulate}
 use Rattle.lists.proofs.Places.{side, tabulate-at, getD-tabulate}
-use Rattle.lists.specs.Table.{all}
-use Rattle.lists.proofs.Table.{entry}
+use Rattle.lists.specs.Entries.{all}
+use Rattle.lists.proofs.Entries.{entry}
 use Rattle.status.specs.declared.Latches.{Latches}
 use Rattle.port.specs.States.{codeOf, closed, inDisabled, inPowerOn}
 use Rattle.port.specs.declared.form.State.{State}

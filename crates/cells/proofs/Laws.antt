@@ -16,13 +16,13 @@ use Rattle.lists.proofs.Places.{side, length-tabulate, getD-tabulate}
 use Rattle.lists.proofs.Tests.{and-left, and-right}
 use Rattle.power.specs.Power.{tenths}
 use Rattle.port.specs.declared.form.Port.{Port}
-use Rattle.table.specs.Form.{noPort, portAt}
+use Rattle.table.specs.Parts.{noPort, portAt}
 use Rattle.cells.specs.Cells.{countsOf, portOf, tableOf, portHolds, fieldsOf, isOfPort, written}
 use Rattle.cells.proofs.CodeLaws.{state-back, code-again, latches-back, latches-again}
 use Rattle.cells.specs.Codes.{stateOf, latchesOf}
 use Rattle.cells.specs.Writes.{writes}
 use Rattle.cells.proofs.Writes.{length-writes, writes-other, writes-at}
-use Rattle.cells.specs.Laws.{Holds}
+use Rattle.cells.specs.Holds.{Holds}
 
 -- ---- which cells are a port's
 

@@ -13,11 +13,11 @@ use lib.ListN.{length, getD}
 use borrow.Author.Tests.{lt-ltb, le-ltb}
 use Rattle.sizes.specs.Sizes.{mostPorts}
 use Rattle.lists.proofs.Places.{side}
-use Rattle.port.specs.Form.{withCounts}
+use Rattle.port.specs.Changes.{withCounts}
 use Rattle.port.specs.declared.form.Counts.{Counts}
 use Rattle.port.specs.declared.form.Port.{Port}
 use Rattle.cells.specs.Cells.{portOf, fieldsOf, written}
-use Rattle.cells.specs.Laws.{Holds}
+use Rattle.cells.specs.Holds.{Holds}
 use Rattle.cells.proofs.Laws.{written-self, written-cong, written-field, port-written, writes-written}
 use Rattle.cells.specs.Writes.{withPortCells, withCountCells, countFields}
 

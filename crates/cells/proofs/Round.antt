@@ -18,7 +18,7 @@ use Rattle.lists.proofs.Places.{side, tabulated}
 use Rattle.lists.proofs.Tests.{and-left}
 use Rattle.power.specs.Power.{tenths}
 use Rattle.port.specs.declared.form.Port.{Port}
-use Rattle.table.specs.Form.{noPort, portAt}
+use Rattle.table.specs.Parts.{noPort, portAt}
 use Rattle.table.specs.declared.form.Table.{Table}
 use Rattle.cells.specs.Cells.{cellsLong, countCell, supplyCell, countsOf, portOf, tableOf, portHolds, isTable, written, cellsWith, cellsOf}
 use Rattle.cells.proofs.CodeLaws.{code-small, latches-small}

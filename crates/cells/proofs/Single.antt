@@ -11,9 +11,9 @@ use Rattle.sizes.specs.Sizes.{mostPorts}
 use Rattle.lists.specs.Places.{tabulate}
 use Rattle.lists.proofs.Places.{length-tabulate}
 use Rattle.port.specs.declared.form.Port.{Port}
-use Rattle.table.specs.Form.{noPort, portAt, withPort}
+use Rattle.table.specs.Parts.{noPort, portAt, withPort}
 use Rattle.cells.specs.Cells.{cellsLong, countCell, portOf, tableOf, fieldsOf, written, cellsWith}
-use Rattle.cells.specs.Laws.{Holds}
+use Rattle.cells.specs.Holds.{Holds}
 use Rattle.cells.proofs.Laws.{written-self, writes-written, table-at}
 use Rattle.cells.specs.Writes.{writes}
 

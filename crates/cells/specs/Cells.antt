@@ -11,7 +11,7 @@ use Rattle.power.specs.Power.{tenths}
 use Rattle.port.specs.States.{codeOf}
 use Rattle.port.specs.declared.form.Counts.{Counts}
 use Rattle.port.specs.declared.form.Port.{Port}
-use Rattle.table.specs.Form.{portAt}
+use Rattle.table.specs.Parts.{portAt}
 use Rattle.table.specs.declared.form.Table.{Table}
 use Rattle.cells.specs.Codes.{stateOf, latchByte, latchesOf}
 

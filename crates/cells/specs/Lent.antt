@@ -13,12 +13,12 @@ use Rattle.table.specs.declared.form.Status.the-variants.{Word, Refused as NoSt
 use Rattle.table.specs.declared.form.StatusRead.{StatusRead}
 use Rattle.table.specs.declared.form.Table.{Table}
 use Rattle.table.specs.declared.form.Ticked.{Ticked}
-use Rattle.table.specs.declared.form.Told.{Told}
-use Rattle.table.specs.Form.{refuse, refuseStatus, refuseTick}
+use Rattle.table.specs.declared.form.Replied.{Replied}
+use Rattle.table.specs.Parts.{refuse, refuseStatus, refuseTick}
 use Rattle.cells.specs.Cells.{cellsLong, isTable, tableOf, cellsWith, cellsOf}
 
 -- "13 first, in every call that takes a table": cells that are no table are refused with it before everything else
-abbrev pub toldOn : List ℕ → (Table → Told) → Told
+abbrev pub toldOn : List ℕ → (Table → Replied) → Replied
 toldOn l call = cond (isTable l) (call (tableOf l)) (refuse 13 (tableOf l))
 
 abbrev pub readOn : List ℕ → (Table → StatusRead) → StatusRead
@@ -28,7 +28,7 @@ abbrev pub tickedOn : List ℕ → (Table → Ticked) → Ticked
 tickedOn l call = cond (isTable l) (call (tableOf l)) (refuseTick 13 (tableOf l))
 
 -- a cold start looks at nothing that the cells hold, only at how many they are
-abbrev pub coldOn : List ℕ → Told → Told
+abbrev pub coldOn : List ℕ → Replied → Replied
 coldOn l cold = cond (eqb (length l) cellsLong) cold (refuse 13 (tableOf l))
 
 -- "The table comes back unchanged; no lent byte is written." of a refusal; and what an accepted call leaves is its table
@@ -49,7 +49,7 @@ leftCold Done t l = cellsOf t
 leftCold (Refused number) t l = l
 
 -- the cells after a call that told so much, where they were l
-unfoldable pub cellsTold : Told → List ℕ → List ℕ
+unfoldable pub cellsTold : Replied → List ℕ → List ℕ
 cellsTold told l = leftTold (told .answer) (told .table) l
 
 unfoldable pub cellsRead : StatusRead → List ℕ → List ℕ
@@ -58,5 +58,5 @@ cellsRead told l = leftRead (told .answer) (told .table) l
 unfoldable pub cellsTicked : Ticked → List ℕ → List ℕ
 cellsTicked told l = leftTicked (told .answer) (told .table) l
 
-unfoldable pub cellsCold : Told → List ℕ → List ℕ
+unfoldable pub cellsCold : Replied → List ℕ → List ℕ
 cellsCold told l = leftCold (told .answer) (told .table) l

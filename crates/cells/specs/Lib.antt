@@ -1,5 +1,5 @@
 pub mod Cells
 pub mod Codes
-pub mod Laws
+pub mod Holds
 pub mod Lent
 pub mod Writes

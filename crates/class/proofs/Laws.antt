@@ -4,9 +4,9 @@ use Prim.Native.Nat.{ℕ}
 use mathlib.Core.Path.{_≡_, refl}
 use mathlib.Core.Bool.{Bool, true}
 use lib.Dec.{leb}
-use Rattle.lists.specs.Table.{all, some}
-use Rattle.lists.proofs.Table.{entry-or}
-use Rattle.lists.specs.Tests.{choice}
+use Rattle.lists.specs.Entries.{all, some}
+use Rattle.lists.proofs.Entries.{entry-or}
+use Rattle.lists.proofs.Tests.{choice}
 use Rattle.power.specs.Power.{tenths}
 use Rattle.class.specs.Class.{classOf, isFour, classOfTwo, budgets, budgetOf, isDemand}
 use Rattle.class.specs.declared.Class.{Class}

@@ -61,7 +61,7 @@ pub fn budget(class: u8) -> Power
 
 // Half of each budget, in the byte that this half modulo 8 names: no two budgets share a byte, and a byte that none has is 0.
 // So a demand is told with no branch, as it is asked of 48 ports in every tick.
-const HALVES: u64 = ((BUDGETS[1] as u64 / 2) << (BUDGETS[1] / 2 % 8 * 8))
+const HALVED_DEMANDS: u64 = ((BUDGETS[1] as u64 / 2) << (BUDGETS[1] / 2 % 8 * 8))
     + ((BUDGETS[2] as u64 / 2) << (BUDGETS[2] / 2 % 8 * 8))
     + ((BUDGETS[3] as u64 / 2) << (BUDGETS[3] / 2 % 8 * 8))
     + ((BUDGETS[4] as u64 / 2) << (BUDGETS[4] / 2 % 8 * 8));
@@ -72,5 +72,5 @@ pub fn is_demand(demand: Power) -> bool
 {
     let d = demand.0;
     let place = d / 2 % 8 * 8;
-    (HALVES >> place) % 256 * 2 == d as u64
+    (HALVED_DEMANDS >> place) % 256 * 2 == d as u64
 }

@@ -2,7 +2,7 @@
 use class::Class;
 use fields::Fields;
 use fields::Form;
-use reader::Taken;
+use reader::ReadAnswer;
 use search::Searched;
 use signature::Signature;
 use table::form::Answer;
@@ -89,10 +89,10 @@ pub fn fields(out: &mut [u8], at: usize, fields: Fields) -> usize {
     end(out, past)
 }
 
-pub fn taken(out: &mut [u8], at: usize, answer: Taken) -> usize {
+pub fn taken(out: &mut [u8], at: usize, answer: ReadAnswer) -> usize {
     match answer {
-        Taken::Is(f) => fields(out, at, f),
-        Taken::Refused(k) => refused(out, at, k),
+        ReadAnswer::Is(f) => fields(out, at, f),
+        ReadAnswer::Refused(k) => refused(out, at, k),
     }
 }
 

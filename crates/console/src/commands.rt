@@ -23,15 +23,15 @@ ghost use Prim.Native.Nat.{_/_, _≤_};
 ghost use lib.ListN.{length};
 
 // How many cells are held after a line, and where the next answer goes.
-pub struct Held {
+pub struct HeldCells {
     pub many: usize,
     pub at: usize,
 }
 
 // Nothing changes.
-pub fn bad(many: usize, out: &mut [u8], at: usize) -> Held {
+pub fn bad(many: usize, out: &mut [u8], at: usize) -> HeldCells {
     let to = bad_line(out, at);
-    Held { many, at: to }
+    HeldCells { many, at: to }
 }
 
 fn cold(line: &[u8], cells: &mut [u16], out: &mut [u8], at: usize) -> usize {
@@ -78,19 +78,19 @@ fn only(line: &[u8], data: &mut [u8]) -> Bytes {
     bytes_of(word(line, 1), data)
 }
 
-fn bad_image(many: usize, out: &mut [u8], at: usize) -> Held {
+fn bad_image(many: usize, out: &mut [u8], at: usize) -> HeldCells {
     let to = text::line(out, at, b"bad image");
-    Held { many, at: to }
+    HeldCells { many, at: to }
 }
 
 // An image is restored into as many cells as a table has, whatever was held before; the room has never fewer.
-fn loaded(image: &[u8], room: &mut [u16], many: usize, out: &mut [u8], at: usize) -> Held {
+fn loaded(image: &[u8], room: &mut [u16], many: usize, out: &mut [u8], at: usize) -> HeldCells {
     if room.len() < CELLS {
         return bad_image(many, out, at);
     }
     if load::load(image, &mut room[..728]) {
         let to = text::line(out, at, b"ok");
-        return Held {
+        return HeldCells {
             many: CELLS,
             at: to,
         };
@@ -105,7 +105,7 @@ fn load(
     many: usize,
     out: &mut [u8],
     at: usize,
-) -> Held {
+) -> HeldCells {
     match only(line, data) {
         Bytes::Are(n) => loaded(front(data, n), room, many, out, at),
         Bytes::Bad => bad(many, out, at),
@@ -140,7 +140,7 @@ fn fill(bytes: &[u8], room: &mut [u16])
     }
 }
 
-fn taken(bytes: &[u8], room: &mut [u16], many: usize, out: &mut [u8], at: usize) -> Held {
+fn taken(bytes: &[u8], room: &mut [u16], many: usize, out: &mut [u8], at: usize) -> HeldCells {
     if bytes.len() % 2 != 0 {
         return bad(many, out, at);
     }
@@ -150,7 +150,7 @@ fn taken(bytes: &[u8], room: &mut [u16], many: usize, out: &mut [u8], at: usize)
     let held = bytes.len() / 2;
     fill(bytes, room);
     let to = text::line(out, at, b"ok");
-    Held { many: held, at: to }
+    HeldCells { many: held, at: to }
 }
 
 // Whatever the cells are, and however many: what is no table is for the core to refuse.
@@ -161,7 +161,7 @@ fn cells(
     many: usize,
     out: &mut [u8],
     at: usize,
-) -> Held {
+) -> HeldCells {
     match only(line, data) {
         Bytes::Are(n) => taken(front(data, n), room, many, out, at),
         Bytes::Bad => bad(many, out, at),
@@ -414,7 +414,7 @@ pub fn answer(
     many: usize,
     out: &mut [u8],
     at: usize,
-) -> Held {
+) -> HeldCells {
     let name = word(line, 0);
     if same(name, b"table") {
         return load(line, data, room, many, out, at);
@@ -426,5 +426,5 @@ pub fn answer(
         return bad(many, out, at);
     }
     let to = on_cells(name, line, data, &mut room[..many], out, at);
-    Held { many, at: to }
+    HeldCells { many, at: to }
 }

@@ -15,7 +15,7 @@ pub struct Line {
 }
 
 // Bytes that a line is read for: every loop has to end, and no line comes near so many.
-const MOST: u64 = 1_099_511_627_776;
+const BUDGET: u64 = 1_099_511_627_776;
 
 // The buffer is read into anew once it is all taken. If it is all taken still, the input has ended.
 fn filled(buffer: &mut [u8], source: Source) -> Source {
@@ -61,7 +61,7 @@ fn last(source: Source, length: usize) -> Line {
 pub fn next_line(buffer: &mut [u8], line: &mut [u8], source: Source) -> Line {
     let mut s = source;
     let mut length: usize = 0;
-    let mut left = MOST;
+    let mut left = BUDGET;
     while 0 < left {
         s = filled(buffer, s);
         if s.end <= s.at {

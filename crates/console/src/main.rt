@@ -3,7 +3,7 @@ mod answers;
 mod commands;
 mod lines;
 
-use commands::Held;
+use commands::HeldCells;
 use lines::Source;
 use parts::front;
 use sizes::CELLS;
@@ -14,7 +14,7 @@ ghost use lib.ListN.{length};
 const LONGEST: usize = 8_192;
 
 // Lines that are answered: every loop has to end, and no input comes near so many.
-const MOST: u64 = 1_099_511_627_776;
+const BUDGET: u64 = 1_099_511_627_776;
 
 // One line's answer. What did not fit the line's room is too long.
 fn turn(
@@ -25,7 +25,7 @@ fn turn(
     many: usize,
     out: &mut [u8],
     at: usize,
-) -> Held {
+) -> HeldCells {
     if LONGEST < length {
         return commands::bad(many, out, at);
     }
@@ -52,7 +52,7 @@ fn run(input: &mut [u8], line: &mut [u8], data: &mut [u8], out: &mut [u8], room:
     let mut many: usize = CELLS;
     let mut source = Source { at: 0, end: 0 };
     let mut at: usize = 0;
-    let mut left = MOST;
+    let mut left = BUDGET;
     while 0 < left {
         at = flushed(source, out, at);
         let taken = lines::next_line(input, line, source);

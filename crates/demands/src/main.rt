@@ -15,7 +15,7 @@ ghost use lib.ListN.{length};
 ghost use Rattle.demands.specs.Unbroken.{unbroken, fair};
 
 // Records that are judged: every loop has to end, and no input comes near so many.
-const MOST: u64 = 1_099_511_627_776;
+const BUDGET: u64 = 1_099_511_627_776;
 
 struct Counts {
     held: u64,
@@ -24,7 +24,7 @@ struct Counts {
 }
 
 fn more(n: u64) -> u64 {
-    if n < MOST { n + 1 } else { n }
+    if n < BUDGET { n + 1 } else { n }
 }
 
 fn counted(counts: Counts, verdict: Verdict) -> Counts {
@@ -98,7 +98,7 @@ fn run(space: &mut [u8], cells: &mut [u16], before: &mut [u16]) {
         broken: 0,
     };
     let mut many: usize = 728;
-    let mut left = MOST;
+    let mut left = BUDGET;
     while 0 < left {
         match next(space, cells, before, many) {
             Outcome::Ended => {

@@ -8,7 +8,7 @@ use Rattle.port.specs.declared.form.State.the-variants.{Disabled, Idle, Detecti
 use Rattle.port.specs.declared.form.Port.{Port}
 use Rattle.port.specs.declared.form.Reading.{Reading}
 use Rattle.port.specs.declared.form.Moved.{Moved}
-use Rattle.port.specs.Form.{quietly}
+use Rattle.port.specs.Changes.{quietly}
 use Rattle.port.specs.Entry.{enter}
 use Rattle.port.specs.States.{givesWay}
 use Rattle.diagram.specs.Rules.{idle, detecting, backoff, errorDelay, classifying, powerUp, powerOn, testMode, testError}

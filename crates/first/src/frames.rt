@@ -7,7 +7,7 @@ use judge::same_bytes;
 use order_frames::read_number;
 use order_frames::search_number;
 use order_frames::write_number;
-use reader::Taken;
+use reader::ReadAnswer;
 use reader::read;
 use search::Searched;
 use search::search;
@@ -35,8 +35,8 @@ pub fn first_read(bytes: &[u8]) -> Verdict
 {
     let read_due = read_number(bytes);
     match read(bytes) {
-        Taken::Is(_) => answered(read_due),
-        Taken::Refused(number) => refused(read_due, number, true),
+        ReadAnswer::Is(_) => answered(read_due),
+        ReadAnswer::Refused(number) => refused(read_due, number, true),
     }
 }
 

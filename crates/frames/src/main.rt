@@ -3,7 +3,7 @@
 use fields::Added;
 use fields::Fields;
 use fields::Form;
-use reader::Taken;
+use reader::ReadAnswer;
 use search::Searched;
 use writer::Written;
 
@@ -74,7 +74,7 @@ fn show_form(form: Form) {
 fn take(part: &[u8]) {
     let taken = reader::read(part);
     match taken {
-        Taken::Is(fields) => {
+        ReadAnswer::Is(fields) => {
             number(fields.support as u64);
             number(fields.pair as u64);
             number(fields.class as u64);
@@ -82,7 +82,7 @@ fn take(part: &[u8]) {
             show_form(form);
             give(fields, 16);
         }
-        Taken::Refused(k) => refused(k),
+        ReadAnswer::Refused(k) => refused(k),
     }
     end_line();
 }

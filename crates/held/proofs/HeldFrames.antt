@@ -14,8 +14,8 @@ use Rattle.reader.specs.Read.{readRefusals, readOf}
 use Rattle.search.specs.Search.{searchRefusals, searchOf}
 use Rattle.writer.specs.Write.{writeRefusals, writtenOf, left, roomAfter}
 use Rattle.fields.specs.declared.Fields.{Fields}
-use Rattle.reader.specs.declared.Taken.{Taken}
-use Rattle.reader.specs.declared.Taken.the-variants.{Is as Took, Refused as NotTaken}
+use Rattle.reader.specs.declared.ReadAnswer.{ReadAnswer}
+use Rattle.reader.specs.declared.ReadAnswer.the-variants.{Is as Took, Refused as NotTaken}
 use Rattle.search.specs.declared.Searched.{Searched}
 use Rattle.search.specs.declared.Searched.the-variants.{Is as Found, Refused as NotFound}
 use Rattle.writer.specs.declared.Written.{Written}
@@ -47,11 +47,11 @@ module _ (pdu : List ℕ) where
 module _ (bytes : List ℕ) where
   pub read-answered : (f : Fields) → readOf bytes ≡ Took f → firstNumber (readRefusals bytes) ≡ 0
   unfolding readCall
-  read-answered f e = sym (statement-1-c .read bytes) ∙ ap (λ (t : Taken). numberOf (ofRead t)) e
+  read-answered f e = sym (statement-1-c .read bytes) ∙ ap (λ (t : ReadAnswer). numberOf (ofRead t)) e
 
   pub read-refused : (k : ℕ) → readOf bytes ≡ NotTaken k → (k ≡ firstNumber (readRefusals bytes)) × (1 ≤ k)
   unfolding readCall
-  read-refused k e = (sym (ap (λ (t : Taken). numberOf (ofRead t)) e) ∙ statement-1-c .read bytes, subst (λ (t : Taken). Numbered (ofRead t)) e (frames .read bytes))
+  read-refused k e = (sym (ap (λ (t : ReadAnswer). numberOf (ofRead t)) e) ∙ statement-1-c .read bytes, subst (λ (t : ReadAnswer). Numbered (ofRead t)) e (frames .read bytes))
 
 module _ (f : Fields) (room : List ℕ) where
   pub write-answered : (n : ℕ) → writtenOf f room ≡ Wrote n → firstNumber (writeRefusals f room) ≡ 0

@@ -14,12 +14,12 @@ use Rattle.lists.proofs.Places.{side}
 use Rattle.lists.proofs.Tests.{choice-on, fails-left, fails-right}
 use Rattle.port.specs.States.{isIdle}
 use Rattle.control.specs.Control.{refused}
-use Rattle.table.specs.Form.{portAt, refuse, refuseStatus}
+use Rattle.table.specs.Parts.{portAt, refuse, refuseStatus}
 use Rattle.table.proofs.Laws.{well-count}
 use Rattle.table.specs.declared.form.StatusRead.{StatusRead}
 use Rattle.table.specs.declared.form.Table.{Table}
 use Rattle.table.specs.declared.form.Ticked.{Ticked}
-use Rattle.table.specs.declared.form.Told.{Told}
+use Rattle.table.specs.declared.form.Replied.{Replied}
 use Rattle.replies.specs.Calls.{controlRefusals, writeControl, statusRefusals, readStatus, requestRefusals, request}
 use Rattle.passes.specs.Tick.{tick}
 use Rattle.interface.specs.Laws.{Are}
@@ -28,11 +28,11 @@ use Rattle.statements.proofs.Reached.{Stopped, Ran, tick-told, reached-well}
 use Rattle.history.specs.Decode.{callsOf}
 use Rattle.history.specs.Lent.{cellsReached}
 use Rattle.history.proofs.LentLaws.{cells-reached}
-use Rattle.history.specs.MarkLaws.{markOf}
+use Rattle.history.specs.MarkOf.{markOf}
 use Rattle.history.proofs.MarkLaws.{quiet, marks-reached}
 use Rattle.history.proofs.Plain.{plain-tick}
 use Rattle.history.proofs.Spelled.{Fits, OfBytes, All, spelled, turned, spelled-back, spelled-bytes, turned-all}
-use Rattle.history.specs.EveryHistory.{Same, Reaching}
+use Rattle.history.specs.EveryHistory.{Same, EveryHistoryReached}
 
 -- ---- a call is left out, or some record does what it does
 
@@ -61,7 +61,7 @@ module _ (t : Table) (few : t .count ≤ 48) where
   control-still : (p w : ℕ) → (Fits (control p w) → ⊥) → writeControl t p w .table ≡ t
   unfolding writeControl refuse refused above
   control-still p w odd =
-      ladder-holds (λ (r : Told). r .table ≡ t) (λ k. refuse k t) _ (controlRefusals t p w) (λ k. refl)
+      ladder-holds (λ (r : Replied). r .table ≡ t) (λ k. refuse k t) _ (controlRefusals t p w) (λ k. refl)
       (λ c. absurd (odd (omega (arith, leb-false (t .count) p (c .1 .0)), omega (arith, leb-false 64 w (fails-left (leb 64 w) _ (c .1 .1 .0))))))
 
   status-still : (p : ℕ) → (Fits (status p) → ⊥) → readStatus t p .table ≡ t
@@ -73,7 +73,7 @@ module _ (t : Table) (few : t .count ≤ 48) where
   request-still : (p v : ℕ) → (Fits (requested p v) → ⊥) → request t p v .table ≡ t
   unfolding request refuse
   request-still p v odd =
-      ladder-holds (λ (r : Told). r .table ≡ t) (λ k. refuse k t) _ (requestRefusals t p v) (λ k. refl)
+      ladder-holds (λ (r : Replied). r .table ≡ t) (λ k. refuse k t) _ (requestRefusals t p v) (λ k. refl)
       (λ c. absurd (odd (omega (arith, leb-false (t .count) p (c .1 .0)), omega (arith, ltb-false 255 v (fails-right (ltb v 1) (ltb 255 v) (c .1 .1 .0))))))
 
   stopped-left : (block : List ℕ) (figure : ℕ) → Stopped t (tick t block figure) → Left t (ticked block figure)
@@ -157,7 +157,7 @@ module _ (n : ℕ) (a : 1 ≤ n) (b : n ≤ 48) where
       record { calls = g .calls; fits = g .fits; of-bytes = g .of-bytes; same = record { table = g .same .table ∙ s .table; shows = λ p. g .same .shows p ∙ s .shows p } })
       (kept-or (reached n h) (well-count (reached n h) (reached-well n a b h)) c)
 
-pub every-history : (n : ℕ) → 1 ≤ n → n ≤ 48 → (h : List Call) → Reaching n h
+pub every-history : EveryHistoryReached
 every-history n a b h =
     let g = fitting n a b h in
     let l = spelled (turned (g .calls) []) in

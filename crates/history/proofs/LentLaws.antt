@@ -10,13 +10,13 @@ use native.Mathlib.Omega.{arith}
 use borrow.Author.Tests.{ne-eqb, le-ltb}
 use Rattle.lists.proofs.Ladder.{ladder-holds}
 use Rattle.power.specs.Power.{tenths}
-use Rattle.table.specs.Form.{done, refuse, tells, refuseStatus, refuseTick}
+use Rattle.table.specs.Parts.{done, refuse, tells, refuseStatus, refuseTick}
 use Rattle.table.specs.declared.form.Closed.{Closed}
 use Rattle.table.specs.declared.form.Closed.the-variants.{Ports, Refused}
 use Rattle.table.specs.declared.form.StatusRead.{StatusRead}
 use Rattle.table.specs.declared.form.Table.{Table}
 use Rattle.table.specs.declared.form.Ticked.{Ticked}
-use Rattle.table.specs.declared.form.Told.{Told}
+use Rattle.table.specs.declared.form.Replied.{Replied}
 use Rattle.cells.specs.Cells.{cellsLong, tableOf, isTable}
 use Rattle.cells.specs.Lent.{cellsTold, cellsRead, cellsTicked, cellsCold}
 use Rattle.boards.specs.Masks.{answered}
@@ -39,7 +39,7 @@ module _ (l : List ℕ) (is : isTable l ≡ true) where
   control-are : (p w : ℕ) → Are (writeControl t p w .table) (cellsTold (writeControl t p w) l)
   unfolding writeControl done refuse cellsTold
   control-are p w =
-      ladder-holds (λ (r : Told). Are (r .table) (cellsTold r l)) (λ k. refuse k t) _ (controlRefusals t p w) (λ k. (is, refl)) (λ c. with-port-are l is (c .0) p _ (c .1 .0))
+      ladder-holds (λ (r : Replied). Are (r .table) (cellsTold r l)) (λ k. refuse k t) _ (controlRefusals t p w) (λ k. (is, refl)) (λ c. with-port-are l is (c .0) p _ (c .1 .0))
 
   status-are : (p : ℕ) → Are (readStatus t p .table) (cellsRead (readStatus t p) l)
   unfolding readStatus statusAt tells refuseStatus cellsRead
@@ -49,7 +49,7 @@ module _ (l : List ℕ) (is : isTable l ≡ true) where
   request-are : (p v : ℕ) → Are (request t p v .table) (cellsTold (request t p v) l)
   unfolding request done refuse cellsTold
   request-are p v =
-      ladder-holds (λ (r : Told). Are (r .table) (cellsTold r l)) (λ k. refuse k t) _ (requestRefusals t p v) (λ k. (is, refl)) (λ c. with-port-are l is (c .0) p _ (c .1 .0))
+      ladder-holds (λ (r : Replied). Are (r .table) (cellsTold r l)) (λ k. refuse k t) _ (requestRefusals t p v) (λ k. (is, refl)) (λ c. with-port-are l is (c .0) p _ (c .1 .0))
 
   tick-are : (block : List ℕ) (figure : ℕ) → Are (tick t block figure .table) (cellsTicked (tick t block figure) l)
   unfolding tick answered refuseTick cellsTicked

@@ -12,7 +12,7 @@ use Rattle.lists.proofs.Tests.{choice-on}
 use Rattle.sample.specs.Sample.{sampleAt}
 use Rattle.port.specs.States.{isIdle}
 use Rattle.port.specs.declared.form.Port.{Port}
-use Rattle.table.specs.Form.{noPort, portAt}
+use Rattle.table.specs.Parts.{noPort, portAt}
 use Rattle.table.specs.declared.form.Table.{Table}
 use Rattle.table.specs.declared.form.Ticked.{Ticked}
 use Rattle.replies.specs.Calls.{coldPort, coldTable, coldStart}
@@ -22,7 +22,7 @@ use Rattle.history.specs.Lent.{ranOn, cellsReached}
 use Rattle.history.proofs.LentLaws.{cells-reached, tick-reached}
 use Rattle.history.proofs.States.{idle-cell}
 use Rattle.history.specs.Marks.{seenMark, notedMark, notedAll, blockOf, marksReached}
-use Rattle.history.specs.MarkLaws.{markOf}
+use Rattle.history.specs.MarkOf.{markOf}
 
 -- ---- one call
 

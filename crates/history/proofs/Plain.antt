@@ -17,7 +17,7 @@ use Rattle.lists.specs.Ladder.{ladder, Clear}
 use Rattle.lists.proofs.Ladder.{ladder-holds}
 use Rattle.lists.specs.Places.{tabulate}
 use Rattle.lists.proofs.Places.{side, length-tabulate, getD-tabulate}
-use Rattle.lists.specs.Tests.{choice}
+use Rattle.lists.proofs.Tests.{choice}
 use Rattle.power.specs.Power.{forced, tenths}
 use Rattle.class.specs.Class.{classOf, isFour, classOfTwo}
 use Rattle.class.proofs.Laws.{atMostFour, class-of-two-at-most-four}
@@ -35,7 +35,7 @@ use Rattle.port.specs.declared.form.Reading.{Reading}
 use Rattle.diagram.specs.Step.{step}
 use Rattle.boards.specs.Masks.{answered}
 use Rattle.boards.specs.Sharing.{tableAfter}
-use Rattle.table.specs.Form.{portAt, refuseTick}
+use Rattle.table.specs.Parts.{portAt, refuseTick}
 use Rattle.table.specs.WellMade.{illMade}
 use Rattle.table.specs.declared.form.Table.{Table}
 use Rattle.table.specs.declared.form.Ticked.{Ticked}

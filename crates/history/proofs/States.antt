@@ -15,7 +15,7 @@ use Rattle.port.specs.States.{isIdle, inTest}
 use Rattle.port.specs.declared.form.Port.{Port}
 use Rattle.port.specs.declared.form.State.{State}
 use Rattle.port.specs.declared.form.State.the-variants.{TestError}
-use Rattle.table.specs.Form.{portAt}
+use Rattle.table.specs.Parts.{portAt}
 use Rattle.table.specs.declared.form.Table.{Table}
 use Rattle.cells.specs.Cells.{portOf}
 use Rattle.cells.specs.Codes.{stateOf}

@@ -1,6 +1,6 @@
 pub mod Decode
 pub mod EveryHistory
 pub mod Lent
-pub mod MarkLaws
+pub mod MarkOf
 pub mod Marks
 pub mod Spelled

@@ -6,7 +6,7 @@ ghost use mathlib.Core.Bool.{not};
 ghost use Prim.Native.Nat.{_<_};
 ghost use lib.Dec.{ltb};
 ghost use lib.ListN.{length};
-ghost use Rattle.lists.specs.Table.{some};
+ghost use Rattle.lists.specs.Entries.{some};
 ghost use Rattle.power.specs.Power.{tenths};
 ghost use Rattle.class.specs.Class.{isDemand};
 ghost use Rattle.control.specs.Control.{refused};

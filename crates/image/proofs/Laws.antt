@@ -17,7 +17,7 @@ use Rattle.lists.proofs.Places.{side, length-tabulate, getD-tabulate, tabulated
 use Rattle.lists.proofs.Tests.{and-left, and-right}
 use Rattle.power.specs.Power.{tenths}
 use Rattle.port.specs.declared.form.Port.{Port}
-use Rattle.table.specs.Form.{noPort, portAt}
+use Rattle.table.specs.Parts.{noPort, portAt}
 use Rattle.table.specs.declared.form.Table.{Table}
 use Rattle.cells.specs.Cells.{portOf, tableOf, cellsOf, cellsLong}
 use Rattle.cells.proofs.CodeLaws.{state-back, code-small, code-again, latches-back, latches-small, latches-again}

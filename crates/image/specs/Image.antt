@@ -10,7 +10,7 @@ use Rattle.lists.specs.Places.{tabulate}
 use Rattle.port.specs.declared.form.Counts.{Counts}
 use Rattle.port.specs.declared.form.Port.{Port}
 use Rattle.port.specs.States.{codeOf}
-use Rattle.table.specs.Form.{portAt}
+use Rattle.table.specs.Parts.{portAt}
 use Rattle.table.specs.declared.form.Table.{Table}
 use Rattle.cells.specs.Cells.{cellsLong, portHolds, tableOf}
 use Rattle.cells.specs.Codes.{latchByte}

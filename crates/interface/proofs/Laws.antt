@@ -14,12 +14,12 @@ use Rattle.sizes.specs.Sizes.{mostPorts}
 use Rattle.lists.specs.Ladder.{ladder, Clear, Each}
 use Rattle.lists.proofs.Ladder.{ladder-each}
 use Rattle.lists.proofs.Places.{length-tabulate, getD-tabulate}
-use Rattle.lists.specs.Tests.{choice}
+use Rattle.lists.proofs.Tests.{choice}
 use Rattle.lists.proofs.Tests.{and-left, and-right, fails-right, choice-on}
 use Rattle.power.specs.Power.{tenths}
 use Rattle.power.specs.declared.Power.{Power}
 use Rattle.port.specs.declared.form.Port.{Port}
-use Rattle.table.specs.Form.{portAt, withPort, done, refuse, tells, refuseStatus, refuseTick}
+use Rattle.table.specs.Parts.{portAt, withPort, done, refuse, tells, refuseStatus, refuseTick}
 use Rattle.table.proofs.Laws.{well-count}
 use Rattle.table.specs.WellMade.{illMade, wellMade}
 use Rattle.table.specs.declared.form.Answer.{Answer}
@@ -31,7 +31,7 @@ use Rattle.table.specs.declared.form.Status.the-variants.{Word, Refused as NoSt
 use Rattle.table.specs.declared.form.StatusRead.{StatusRead}
 use Rattle.table.specs.declared.form.Table.{Table}
 use Rattle.table.specs.declared.form.Ticked.{Ticked}
-use Rattle.table.specs.declared.form.Told.{Told}
+use Rattle.table.specs.declared.form.Replied.{Replied}
 use Rattle.cells.specs.Cells.{cellsLong, tableOf, isTable, isOfPort, written, cellsWith}
 use Rattle.cells.proofs.Laws.{table-at}
 use Rattle.cells.specs.Lent.{cellsTold, cellsRead, cellsTicked, cellsCold}
@@ -50,7 +50,7 @@ use Rattle.image.specs.Load.{portIn, tableIn, reads, restores, cellsRestored}
 use Rattle.reader.specs.Read.{readRefusals, readOf}
 use Rattle.search.specs.Search.{searchRefusals, searchOf}
 use Rattle.writer.specs.Write.{writeRefusals, writtenOf, roomAfter as tlvAfter}
-use Rattle.reader.specs.declared.Taken.the-variants.{Refused as NotTaken}
+use Rattle.reader.specs.declared.ReadAnswer.the-variants.{Refused as NotTaken}
 use Rattle.search.specs.declared.Searched.the-variants.{Refused as NotFound}
 use Rattle.writer.specs.declared.Written.the-variants.{Refused as NotWritten}
 use Rattle.ipaqsuni.specs.Calls.{answerNumber, statusNumber, wordLeft, tickNumber, maskALeft, maskBLeft, closedLeft, saveNumber, restoreNumber}
@@ -162,10 +162,10 @@ module _ (l : List ℕ) (was : isTable l ≡ true) (well : illMade (tableOf l) �
       (with-are t l was ports refl (few-ports (tableOf l) well) past, with-table t l was ports refl (few-ports (tableOf l) well) past)
 
 module _ (l : List ℕ) where
-  abbrev FairTold : Told → Type 0
+  abbrev FairTold : Replied → Type 0
   FairTold told = Fair (told .answer) (told .table) (cellsTold told l)
 
-  abbrev FairCold : Told → Type 0
+  abbrev FairCold : Replied → Type 0
   FairCold told = Fair (told .answer) (told .table) (cellsCold told l)
 
   abbrev FairRead : StatusRead → Type 0

@@ -9,10 +9,10 @@ use lib.Dec.{eqb}
 use lib.ListN.{length}
 use Rattle.lists.specs.Ladder.{Clear}
 use Rattle.lists.proofs.Ladder.{ladder-part}
-use Rattle.table.specs.Form.{done, refuse, tells, refuseStatus, refuseTick}
+use Rattle.table.specs.Parts.{done, refuse, tells, refuseStatus, refuseTick}
 use Rattle.table.specs.declared.form.StatusRead.{StatusRead}
 use Rattle.table.specs.declared.form.Ticked.{Ticked}
-use Rattle.table.specs.declared.form.Told.{Told}
+use Rattle.table.specs.declared.form.Replied.{Replied}
 use Rattle.cells.specs.Cells.{cellsLong, tableOf, isTable}
 use Rattle.replies.specs.Calls.{coldTable, coldRefusals, coldStart, controlRefusals, writeControl, statusRefusals, statusAt, readStatus, requestRefusals, request}
 use Rattle.replies.specs.OnCells.{startOn, controlOn, statusOn, requestOn}
@@ -25,7 +25,7 @@ use Rattle.reader.specs.Read.{readRefusals, readOf}
 use Rattle.search.specs.Search.{searchRefusals, searchOf}
 use Rattle.writer.specs.Write.{writeRefusals, writtenOf, roomAfter as tlvAfter}
 use Rattle.fields.specs.declared.Fields.{Fields}
-use Rattle.reader.specs.declared.Taken.the-variants.{Refused as NotTaken}
+use Rattle.reader.specs.declared.ReadAnswer.the-variants.{Refused as NotTaken}
 use Rattle.search.specs.declared.Searched.the-variants.{Refused as NotFound}
 use Rattle.writer.specs.declared.Written.the-variants.{Refused as NotWritten}
 use Rattle.ipaqsuni.specs.Calls.{answerNumber, statusNumber, tickNumber, saveNumber, restoreNumber}
@@ -57,7 +57,7 @@ no-table : {X : Type 0} (number : X → ℕ) (is : Bool) (call none : X) (rs : L
 no-table number true call none rs e f = e
 no-table number false call none rs e f = f
 
-abbrev toldNumber : Told → ℕ
+abbrev toldNumber : Replied → ℕ
 toldNumber r = answerNumber (r .answer)
 
 abbrev readNumber : StatusRead → ℕ

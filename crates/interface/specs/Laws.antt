@@ -16,7 +16,7 @@ use Rattle.table.specs.declared.form.Status.the-variants.{Word, Refused as NoSt
 use Rattle.table.specs.declared.form.StatusRead.{StatusRead}
 use Rattle.table.specs.declared.form.Table.{Table}
 use Rattle.table.specs.declared.form.Ticked.{Ticked}
-use Rattle.table.specs.declared.form.Told.{Told}
+use Rattle.table.specs.declared.form.Replied.{Replied}
 use Rattle.cells.specs.Cells.{tableOf, isTable, isOfPort, cellsLong}
 use Rattle.cells.specs.Lent.{cellsTold, cellsRead, cellsTicked, cellsCold}
 use Rattle.replies.specs.Calls.{request}
@@ -33,8 +33,8 @@ use Rattle.ipaqsuni.specs.Tlv.{findCall, readCall, writeCall}
 
 -- of any call on a table that answers so, whatever it was lent
 pub record RefusalLeaves : Type 0 where
-  pub cold : (told : Told) (l : List ℕ) → (answerNumber (told .answer) ≡ 0 → ⊥) → cellsCold told l ≡ l
-  pub told : (told : Told) (l : List ℕ) → (answerNumber (told .answer) ≡ 0 → ⊥) → cellsTold told l ≡ l
+  pub cold : (told : Replied) (l : List ℕ) → (answerNumber (told .answer) ≡ 0 → ⊥) → cellsCold told l ≡ l
+  pub told : (told : Replied) (l : List ℕ) → (answerNumber (told .answer) ≡ 0 → ⊥) → cellsTold told l ≡ l
   pub read : (told : StatusRead) (l : List ℕ) (word : ℕ) → (statusNumber (told .answer) ≡ 0 → ⊥) → (cellsRead told l ≡ l) × (wordLeft (told .answer) word ≡ word)
   pub ticked : (told : Ticked) (l : List ℕ) (a b n : ℕ) → (tickNumber (told .answer) ≡ 0 → ⊥)
       → (cellsTicked told l ≡ l) × (maskALeft (told .answer) a ≡ a) × (maskBLeft (told .answer) b ≡ b) × (closedLeft (told .answer) n ≡ n)
@@ -72,7 +72,7 @@ pub record Calls : Type 0 where
 
 -- a cell that is no field of a port below the count, nor the stored supply, is as it was after every call but a cold start or a restore
 pub record Untouched : Type 0 where
-  pub told : (told : Told) (l : List ℕ) (k : ℕ) → k < length l → isOfPort (told .table .count) k ≡ false → (k ≡ 1 → ⊥) → getD (cellsTold told l) k 0 ≡ getD l k 0
+  pub told : (told : Replied) (l : List ℕ) (k : ℕ) → k < length l → isOfPort (told .table .count) k ≡ false → (k ≡ 1 → ⊥) → getD (cellsTold told l) k 0 ≡ getD l k 0
   pub read : (told : StatusRead) (l : List ℕ) (k : ℕ) → k < length l → isOfPort (told .table .count) k ≡ false → (k ≡ 1 → ⊥) → getD (cellsRead told l) k 0 ≡ getD l k 0
   pub ticked : (told : Ticked) (l : List ℕ) (k : ℕ) → k < length l → isOfPort (told .table .count) k ≡ false → (k ≡ 1 → ⊥) → getD (cellsTicked told l) k 0 ≡ getD l k 0
 

@@ -16,7 +16,7 @@ use Rattle.reader.specs.Read.{addedIn, formIn, fieldsIn, readRefusals, readOf}
 use Rattle.writer.specs.Write.{writtenOf, roomAfter}
 use Rattle.fields.specs.declared.Fields.{Fields}
 use Rattle.fields.specs.declared.Form.the-variants.{Short, Long}
-use Rattle.reader.specs.declared.Taken.the-variants.{Is as Took, Refused as NotTaken}
+use Rattle.reader.specs.declared.ReadAnswer.the-variants.{Is as Took, Refused as NotTaken}
 use Rattle.writer.specs.declared.Written.the-variants.{Is as Wrote, Refused as NotWritten}
 use Rattle.numbers.specs.Numbers.{noForm, noFields}
 use Rattle.ipaqsuni.specs.Outcome.{refused, accepted}

@@ -10,8 +10,8 @@ use Rattle.writer.specs.Write.{writtenOf, roomAfter}
 use Rattle.fields.specs.declared.Fields.{Fields}
 use Rattle.fields.specs.declared.Form.{Form}
 use Rattle.fields.specs.declared.Form.the-variants.{Short, Long}
-use Rattle.reader.specs.declared.Taken.{Taken}
-use Rattle.reader.specs.declared.Taken.the-variants.{Is as Took, Refused as NotTaken}
+use Rattle.reader.specs.declared.ReadAnswer.{ReadAnswer}
+use Rattle.reader.specs.declared.ReadAnswer.the-variants.{Is as Took, Refused as NotTaken}
 use Rattle.search.specs.declared.Searched.{Searched}
 use Rattle.search.specs.declared.Searched.the-variants.{Is as Found, Refused as NotFound}
 use Rattle.writer.specs.declared.Written.{Written}
@@ -34,7 +34,7 @@ abbrev pub ofSearch : Searched → Outcome Part
 ofSearch (Found at n) = accepted (record { offset = at; size = n })
 ofSearch (NotFound number) = refused number
 
-abbrev pub ofRead : Taken → Outcome Fields
+abbrev pub ofRead : ReadAnswer → Outcome Fields
 ofRead (Took f) = accepted f
 ofRead (NotTaken number) = refused number
 

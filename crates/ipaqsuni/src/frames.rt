@@ -3,7 +3,7 @@ use fields::Fields;
 use fields::Form;
 use numbers::form_given;
 use numbers::no_fields;
-use reader::Taken;
+use reader::ReadAnswer;
 use search::Searched;
 use writer::Written;
 ghost use mathlib.Core.Path.{_≡_};
@@ -59,11 +59,11 @@ pub extern "C" fn ipaqsuni_read_power_tlv(tlv: &[u8], fields: &mut [u32; 9]) -> 
     ensures { λ _. ⌜ now (fields .exit) ≡ leaves numbersOf (readCall (now (tlv .entry))) (now (fields .entry)) ⌝ }
 {
     match reader::read(tlv) {
-        Taken::Is(taken) => {
+        ReadAnswer::Is(taken) => {
             *fields = numbers_of(taken);
             0
         }
-        Taken::Refused(number) => number as u32,
+        ReadAnswer::Refused(number) => number as u32,
     }
 }
 

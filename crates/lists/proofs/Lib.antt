@@ -3,6 +3,6 @@ pub mod Count
 pub mod Every
 pub mod Ladder
 pub mod Places
-pub mod Table
+pub mod Entries
 pub mod Tests
 pub mod Total

@@ -1,4 +1,4 @@
--- What is proved of specs/Tests.
+-- Laws of tests: what their conjunctions and disjunctions say, and what holds of a choice by one.
 -- Assumes nothing.
 use mathlib.Core.Path.{_≡_, refl, sym, _∙_}
 use mathlib.Core.Bool.{Bool, true, false, cond, not, _&&_, _||_, false≢true, true≢false}
@@ -79,3 +79,9 @@ module _ {X : Type 0} (P : X → Type 0) where
   pub choice-on : (t : Bool) (a b : X) → (t ≡ true → P a) → (t ≡ false → P b) → P (cond t a b)
   choice-on true a b p q = p refl
   choice-on false a b p q = q refl
+
+module _ {X : Type 0} (P : X → Type 0) where
+  -- a choice of two that are right is right
+  pub choice : (t : Bool) (a b : X) → P a → P b → P (cond t a b)
+  choice true a b p q = p
+  choice false a b p q = q

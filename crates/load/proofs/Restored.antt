@@ -16,7 +16,7 @@ use Rattle.lists.proofs.Places.{getD-tabulate}
 use Rattle.lists.proofs.Tests.{and-left, and-right}
 use Rattle.port.specs.States.{codeOf}
 use Rattle.port.specs.declared.form.Port.{Port}
-use Rattle.table.specs.Form.{noPort, portAt}
+use Rattle.table.specs.Parts.{noPort, portAt}
 use Rattle.cells.specs.Cells.{portOf, portHolds, written, cellsOf, cellsLong}
 use Rattle.cells.proofs.CodeLaws.{code-again, latches-again}
 use Rattle.cells.specs.Codes.{stateOf, latchByte, latchesOf}

@@ -17,12 +17,12 @@ use Rattle.class.specs.Class.{budgets, budgetOf}
 use Rattle.port.specs.States.{inDisabled, inPowerOn}
 use Rattle.port.specs.declared.form.State.{State}
 use Rattle.table.specs.Drawn.{closedSum}
-use Rattle.table.specs.Form.{portAt}
+use Rattle.table.specs.Parts.{portAt}
 use Rattle.table.specs.WellMade.{illMade}
 use Rattle.cells.specs.Cells.{tableOf, isTable}
 use Rattle.cells.proofs.CodeLaws.{disabled-code, power-on-code}
 use Rattle.replies.specs.Calls.{sameAlternative, granting, overSupply}
-use Rattle.replies.specs.OnLaws.{AtPort}
+use Rattle.replies.specs.Rest.{AtPort}
 use Rattle.replies.proofs.OnLaws.{state-at, control-at, demand-at, class-at}
 use Rattle.well.specs.Judged.{wellCells}
 use Rattle.well.proofs.Laws.{WellCells, cells-of}

@@ -9,7 +9,7 @@ ghost use Rattle.table.specs.Drawn.{closedSum};
 ghost use Rattle.cells.specs.Cells.{tableOf};
 ghost use Rattle.cells.specs.Codes.{stateOf};
 ghost use Rattle.replies.specs.Calls.{granting, levelOf};
-ghost use Rattle.replies.specs.OnLaws.{AtPort};
+ghost use Rattle.replies.specs.Rest.{AtPort};
 ghost use Rattle.interface.specs.Statement1C.{firstNumber, requestList};
 
 // "Budgets for classes 0 to 4: 154, 40, 70, 154, 300".

@@ -4,7 +4,7 @@
 use Prim.Native.Nat.{ℕ}
 use mathlib.Core.Path.{_≡_, refl}
 use mathlib.Core.Bool.{true, cond, not, _&&_}
-use Rattle.lists.specs.Tests.{choice}
+use Rattle.lists.proofs.Tests.{choice}
 use Rattle.power.specs.declared.Power.{Power}
 use Rattle.control.specs.Control.{enableOf, pairOf}
 use Rattle.enable.specs.Enable.{isOff, isOn, isForced}
@@ -18,7 +18,7 @@ use Rattle.port.specs.declared.form.Port.{Port}
 use Rattle.port.specs.declared.form.Reading.{Reading}
 use Rattle.port.specs.declared.form.State.{State}
 use Rattle.port.specs.declared.form.State.the-variants.{Disabled, Idle, Detecting, Backoff, Classifying, PowerUp, PowerOn, ErrorDelay, TestMode, TestError}
-use Rattle.port.specs.Form.{withClass, withDemand, withCounts, detectionAt, backoffAt, errorDelayAt, powerOnAt, noLoadAt, quietly, latching, asking, latchValid, latchInvalid, latchShort, latchOverload, latchAbsent}
+use Rattle.port.specs.Changes.{withClass, withDemand, withCounts, detectionAt, backoffAt, errorDelayAt, powerOnAt, noLoadAt, quietly, latching, asking, latchValid, latchInvalid, latchShort, latchOverload, latchAbsent}
 use Rattle.port.specs.Entry.{up, during, enter}
 use Rattle.port.specs.States.{closed, inTest, givesWay}
 use Rattle.diagram.specs.Limits.{detectingEnds, backoffEnds, errorDelayEnds, classifyingEnds, powerUpEnds, faultBy, loadAbsent}

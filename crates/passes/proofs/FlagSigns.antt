@@ -11,11 +11,11 @@ use Rattle.signature.specs.declared.Signature.{Signature}
 use Rattle.signature.specs.declared.Signature.the-variants.{Valid, Invalid, Open}
 use Rattle.port.specs.declared.form.Classing.the-variants.{NotDone as NotClassed}
 use Rattle.port.specs.declared.form.Detection.the-variants.{NotDone}
-use Rattle.quick.specs.declared.Signs.{Signs}
+use Rattle.quick.specs.declared.FlagsShown.{FlagsShown}
 use Rattle.quick.proofs.Quick.{isDone, isClassed, signsOf}
 use Rattle.block.specs.Digest.{detectionOf, classingOf, digest}
 
-unfoldable pub signsIn : ℕ → Signs
+unfoldable pub signsIn : ℕ → FlagsShown
 signsIn flags =
     record {
       detected = flagsOf flags .«detection_done»;

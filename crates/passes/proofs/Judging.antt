@@ -14,7 +14,7 @@ use Rattle.lists.proofs.Every.{nowhere}
 use Rattle.lists.specs.Ladder.{ladder}
 use Rattle.power.specs.Power.{tenths}
 use Rattle.sample.specs.Sample.{sampleAt, reservedFlags}
-use Rattle.table.specs.Form.{refuseTick}
+use Rattle.table.specs.Parts.{refuseTick}
 use Rattle.table.specs.declared.form.Table.{Table}
 use Rattle.table.specs.declared.form.Ticked.{Ticked}
 use Rattle.cells.specs.Cells.{countCell, tableOf}

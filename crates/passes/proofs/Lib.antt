@@ -3,4 +3,4 @@ pub mod Judging
 pub mod Moving
 pub mod Settling
 pub mod Ticking
-pub mod Wells
+pub mod MovesWell

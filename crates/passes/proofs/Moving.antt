@@ -14,7 +14,7 @@ use Rattle.sizes.specs.Sizes.{mostPorts, sampleBytes}
 use Rattle.lists.specs.Every.{someBelow}
 use Rattle.lists.specs.Places.{Filled}
 use Rattle.lists.proofs.Places.{side}
-use Rattle.port.specs.Form.{quietly}
+use Rattle.port.specs.Changes.{quietly}
 use Rattle.port.specs.declared.form.Port.{Port}
 use Rattle.power.specs.Power.{forced}
 use Rattle.sample.specs.Sample.{sampleAt}
@@ -22,7 +22,7 @@ use Rattle.diagram.specs.Step.{step}
 use Rattle.settling.specs.Claim.{settlingChanges, settledAs}
 use Rattle.settling.proofs.Claim.{settled-still}
 use Rattle.cells.specs.Cells.{cellsLong, portOf, written}
-use Rattle.cells.specs.Laws.{Holds}
+use Rattle.cells.specs.Holds.{Holds}
 use Rattle.cells.proofs.Laws.{written-self, written-long, written-cong}
 use Rattle.cells.proofs.Pass.{stage, stage-done, stage-left, pass-none, pass-all, pass-port, pass-field, pass-more, pass-kept}
 use Rattle.cells.specs.Writes.{withPortCells}

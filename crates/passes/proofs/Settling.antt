@@ -15,7 +15,7 @@ use borrow.Author.Tests.{lt-ltb, le-ltb, le-leb, lt-leb, leb-true}
 use Rattle.sizes.specs.Sizes.{mostPorts}
 use Rattle.lists.specs.Places.{tabulate}
 use Rattle.lists.proofs.Places.{getD-tabulate, tabulate-cong, side}
-use Rattle.lists.specs.Tests.{choice}
+use Rattle.lists.proofs.Tests.{choice}
 use Rattle.lists.specs.Total.{total}
 use Rattle.lists.proofs.Total.{total-cong, total-mono, total-plus, total-less}
 use Rattle.power.specs.declared.Power.{Power}
@@ -32,7 +32,7 @@ use Rattle.share.proofs.Given.{claimsOf, claims-of}
 use Rattle.share.proofs.Laws.{all-keep}
 use Rattle.share.specs.Share.{noClaim, claims, keeps, claimedSum, sumWhere}
 use Rattle.table.specs.Drawn.{draws}
-use Rattle.table.specs.Form.{portAt}
+use Rattle.table.specs.Parts.{portAt}
 use Rattle.table.specs.declared.form.Table.{Table}
 use Rattle.cells.specs.Cells.{portOf}
 use Rattle.boards.proofs.Laws.{Opens, rank-here}

@@ -18,7 +18,7 @@ use Rattle.lists.specs.Every.{someBelow}
 use Rattle.lists.proofs.Every.{every-at, nowhere}
 use Rattle.lists.specs.Places.{tabulate}
 use Rattle.lists.proofs.Places.{side, length-tabulate, getD-tabulate}
-use Rattle.lists.specs.Tests.{choice}
+use Rattle.lists.proofs.Tests.{choice}
 use Rattle.lists.proofs.Tests.{fails-left, fails-right}
 use Rattle.lists.specs.Total.{total}
 use Rattle.lists.proofs.Total.{total-cong, total-zero}
@@ -26,17 +26,17 @@ use Rattle.power.specs.Power.{tenths, forced}
 use Rattle.power.specs.declared.Power.{Power}
 use Rattle.sample.specs.Sample.{sampleAt, reservedFlags, flagsOf}
 use Rattle.control.specs.Control.{refused}
-use Rattle.port.specs.Form.{quietly}
+use Rattle.port.specs.Changes.{quietly}
 use Rattle.port.specs.declared.form.Moved.{Moved}
 use Rattle.port.specs.declared.form.Port.{Port}
 use Rattle.outcomes.proofs.Open.{open-stays}
 use Rattle.diagram.specs.Step.{step}
 use Rattle.share.specs.Share.{claimedSum}
 use Rattle.table.specs.Drawn.{draws}
-use Rattle.table.specs.Form.{portAt}
+use Rattle.table.specs.Parts.{portAt}
 use Rattle.table.specs.declared.form.Table.{Table}
 use Rattle.cells.specs.Cells.{cellsLong, countCell, portOf, tableOf, portHolds, written, cellsWith}
-use Rattle.cells.specs.Laws.{Holds}
+use Rattle.cells.specs.Holds.{Holds}
 use Rattle.cells.proofs.Laws.{table-at, written-long, written-head, written-cong, written-again, written-set, port-written}
 use Rattle.cells.proofs.Round.{holds-written}
 use Rattle.quick.proofs.Quick.{signsOf}
@@ -53,7 +53,7 @@ use Rattle.tally.specs.Tally.{drawnOn}
 use Rattle.passes.specs.Passes.{Classes, wholeMove, markedMove, steppedPort, steppedLane, Ready, movedOn, askedOn, someAsk, sharedBy, sharedOn, movedCells}
 use Rattle.passes.proofs.Settling.{claimed-at-most, quiet-is, shared-is}
 use Rattle.passes.specs.Tick.{movedAt}
-use Rattle.passes.proofs.Wells.{digest-well, step-well}
+use Rattle.passes.proofs.MovesWell.{digest-well, step-well}
 
 -- ---- what a well-made table lets the quick pass go by
 

@@ -14,7 +14,7 @@ use Rattle.lists.specs.Total.{total}
 use Rattle.power.specs.Power.{forced, tenths}
 use Rattle.power.specs.declared.Power.{Power}
 use Rattle.sample.specs.Sample.{sampleAt}
-use Rattle.port.specs.Form.{quietly}
+use Rattle.port.specs.Changes.{quietly}
 use Rattle.port.specs.declared.form.Moved.{Moved}
 use Rattle.port.specs.declared.form.Port.{Port}
 use Rattle.diagram.specs.Step.{step}

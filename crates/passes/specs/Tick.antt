@@ -16,7 +16,7 @@ use Rattle.boards.specs.Sharing.{tableAfter}
 use Rattle.table.specs.declared.form.Table.{Table}
 use Rattle.table.specs.declared.form.Ticked.{Ticked}
 use Rattle.block.specs.Digest.{digest}
-use Rattle.table.specs.Form.{portAt, refuseTick}
+use Rattle.table.specs.Parts.{portAt, refuseTick}
 use Rattle.table.specs.WellMade.{illMade}
 
 -- the port at a place below the count, after its own move on its own sample: "14 bytes a port, in port order"

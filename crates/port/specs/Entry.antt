@@ -8,7 +8,7 @@ use Rattle.port.specs.declared.form.Counts.{Counts}
 use Rattle.port.specs.declared.form.State.{State}
 use Rattle.port.specs.declared.form.State.the-variants.{Disabled, Idle, Detecting, Backoff, Classifying, PowerUp, PowerOn, ErrorDelay, TestMode, TestError}
 use Rattle.port.specs.declared.form.Port.{Port}
-use Rattle.port.specs.Form.{withState, withDemand, withCounts, detectionAt, backoffAt, errorDelayAt, powerOnAt, limitingAt, overloadAt, noLoadAt}
+use Rattle.port.specs.Changes.{withState, withDemand, withCounts, detectionAt, backoffAt, errorDelayAt, powerOnAt, limitingAt, overloadAt, noLoadAt}
 
 -- "adds one each tick but stops at 2,000"
 unfoldable pub up : ℕ → ℕ

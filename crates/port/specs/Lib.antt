@@ -1,3 +1,3 @@
 pub mod Entry
-pub mod Form
+pub mod Changes
 pub mod States

@@ -7,7 +7,7 @@ use power::Power;
 use sizes::MOST_COUNT;
 use status::Latches;
 ghost use mathlib.Core.Path.{_≡_};
-ghost use Rattle.port.specs.Form.{quietly, latching, asking};
+ghost use Rattle.port.specs.Changes.{quietly, latching, asking};
 ghost use Rattle.port.specs.Entry.{up, during, countsOnEntry, demandOnEntry, enter};
 
 pub fn up(n: u16) -> u16

@@ -23,10 +23,10 @@ use Rattle.port.specs.declared.form.Port.{Port}
 use Rattle.port.specs.declared.form.Reading.{Reading}
 use Rattle.port.specs.declared.form.State.{State}
 use Rattle.port.specs.declared.form.State.the-variants.{Disabled, Idle, Detecting, Backoff, Classifying, PowerUp, PowerOn, ErrorDelay, TestMode, TestError}
-use Rattle.quick.specs.declared.Glance.{Glance}
-use Rattle.quick.specs.declared.Glance.the-variants.{Counted, Whole}
-use Rattle.quick.specs.declared.Signs.{Signs}
-use Rattle.port.specs.Form.{withCounts, detectionAt, backoffAt, errorDelayAt, powerOnAt, limitingAt, overloadAt, noLoadAt, quietly}
+use Rattle.quick.specs.declared.QuickAnswer.{QuickAnswer}
+use Rattle.quick.specs.declared.QuickAnswer.the-variants.{Counted, Whole}
+use Rattle.quick.specs.declared.FlagsShown.{FlagsShown}
+use Rattle.port.specs.Changes.{withCounts, detectionAt, backoffAt, errorDelayAt, powerOnAt, limitingAt, overloadAt, noLoadAt, quietly}
 use Rattle.port.specs.Entry.{up, during, enter}
 use Rattle.diagram.specs.Limits.{detectingEnds, backoffEnds, errorDelayEnds, classifyingEnds, powerUpEnds, faultBy, loadAbsent}
 use Rattle.diagram.specs.Rules.{detected, detecting, backoff, errorDelay, classed, classifying, stressed, watched, risen, powerUp, powerOn, testMode, testError}
@@ -45,44 +45,44 @@ isClassed NotClassed = false
 isClassed Failed = true
 isClassed (Is k d) = true
 
-unfoldable pub signsOf : Reading → Signs
+unfoldable pub signsOf : Reading → FlagsShown
 signsOf r = record { detected = isDone (r .detection); classed = isClassed (r .class); settled = r .settled; limiting = r .limiting; overload = r .overload; load = r .load }
 
-abbrev pub only : Bool → Counts → Glance
+abbrev pub only : Bool → Counts → QuickAnswer
 only stays c = cond stays (Counted c) Whole
 
-abbrev pub stressedBy : Signs → Counts → Counts
+abbrev pub stressedBy : FlagsShown → Counts → Counts
 stressedBy s c = limitingAt (during (s .limiting) (c .limiting)) (overloadAt (during (s .overload) (c .overload)) c)
 
 -- no fault by the counters
 abbrev pub calm : Counts → Bool
 calm c = not (faultBy (c .limiting)) && not (faultBy (c .overload))
 
-unfoldable pub quickDetecting : Enable → Signs → Counts → Glance
+unfoldable pub quickDetecting : Enable → FlagsShown → Counts → QuickAnswer
 quickDetecting e s c = only ((isOn e && not (s .detected)) && not (detectingEnds (up (c .detection)))) (detectionAt (up (c .detection)) c)
 
-unfoldable pub quickBackoff : Enable → Counts → Glance
+unfoldable pub quickBackoff : Enable → Counts → QuickAnswer
 quickBackoff e c = only (not (isOff e) && not (backoffEnds (up (c .backoff)))) (backoffAt (up (c .backoff)) c)
 
-unfoldable pub quickErrorDelay : Enable → Counts → Glance
+unfoldable pub quickErrorDelay : Enable → Counts → QuickAnswer
 quickErrorDelay e c = only (not (isOff e) && not (errorDelayEnds (up (c .«error_delay»)))) (errorDelayAt (up (c .«error_delay»)) c)
 
-unfoldable pub quickClassifying : Enable → Signs → Counts → Glance
+unfoldable pub quickClassifying : Enable → FlagsShown → Counts → QuickAnswer
 quickClassifying e s c = only ((isOn e && not (s .classed)) && not (classifyingEnds (up (c .«power_on»)))) (powerOnAt (up (c .«power_on»)) c)
 
-unfoldable pub quickPowerUp : Enable → Signs → Counts → Glance
+unfoldable pub quickPowerUp : Enable → FlagsShown → Counts → QuickAnswer
 quickPowerUp e s c =
     only (((isOn e && not (s .settled)) && not (powerUpEnds (up (c .«power_on»)))) && calm (stressedBy s c)) (powerOnAt (up (c .«power_on»)) (stressedBy s c))
 
-unfoldable pub quickPowerOn : Enable → Signs → Counts → Glance
+unfoldable pub quickPowerOn : Enable → FlagsShown → Counts → QuickAnswer
 quickPowerOn e s c =
     only ((isOn e && not (loadAbsent (during (not (s .load)) (c .«no_load»)))) && calm (stressedBy s c)) (noLoadAt (during (not (s .load)) (c .«no_load»)) (stressedBy s c))
 
-unfoldable pub quickTestMode : Enable → Signs → Counts → Glance
+unfoldable pub quickTestMode : Enable → FlagsShown → Counts → QuickAnswer
 quickTestMode e s c = only (isForced e && calm (stressedBy s c)) (stressedBy s c)
 
 -- by the state; a port in DISABLED that stays there keeps its counters and, having no demand, everything
-unfoldable pub quickIn : State → Enable → Power → Signs → Counts → Glance
+unfoldable pub quickIn : State → Enable → Power → FlagsShown → Counts → QuickAnswer
 quickIn Disabled e d s c = only (isOff e && same d zeroPower) c
 quickIn Idle e d s c = Whole
 quickIn Detecting e d s c = quickDetecting e s c
@@ -94,7 +94,7 @@ quickIn ErrorDelay e d s c = quickErrorDelay e c
 quickIn TestMode e d s c = quickTestMode e s c
 quickIn TestError e d s c = only (isForced e) c
 
-unfoldable pub quickly : Port → Signs → Glance
+unfoldable pub quickly : Port → FlagsShown → QuickAnswer
 quickly p s = quickIn (p .state) (enableOf (p .control)) (p .demand) s (p .counts)
 
 -- ---- the quick answer is the step's

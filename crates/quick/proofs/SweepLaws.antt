@@ -17,7 +17,7 @@ use Rattle.power.specs.Power.{tenths, same}
 use Rattle.control.specs.declared.Enable.{Enable}
 use Rattle.control.specs.declared.Enable.the-variants.{Disabled as Off, Enabled, Forced, Reserved}
 use Rattle.port.specs.Entry.{up, during}
-use Rattle.port.specs.Form.{detectionAt, backoffAt, errorDelayAt, powerOnAt, limitingAt, overloadAt, noLoadAt}
+use Rattle.port.specs.Changes.{detectionAt, backoffAt, errorDelayAt, powerOnAt, limitingAt, overloadAt, noLoadAt}
 use Rattle.port.specs.States.{codeOf}
 use Rattle.port.specs.declared.form.Counts.{Counts}
 use Rattle.port.specs.declared.form.State.{State}
@@ -25,25 +25,25 @@ use Rattle.port.specs.declared.form.State.the-variants.{Disabled, Idle, Detecti
 use Rattle.cells.specs.Cells.{cellsLong, countCell, countsOf}
 use Rattle.cells.specs.Writes.{withCountCells, countFields}
 use Rattle.cells.proofs.Writes.{length-writes, writes-other}
-use Rattle.quick.specs.declared.Glance.{Glance}
-use Rattle.quick.specs.declared.Glance.the-variants.{Counted, Whole}
+use Rattle.quick.specs.declared.QuickAnswer.{QuickAnswer}
+use Rattle.quick.specs.declared.QuickAnswer.the-variants.{Counted, Whole}
 use Rattle.quick.specs.declared.Look.{Look}
-use Rattle.quick.specs.declared.Signs.{Signs}
+use Rattle.quick.specs.declared.FlagsShown.{FlagsShown}
 use Rattle.quick.proofs.Quick.{only, stressedBy, calm, quickDetecting, quickBackoff, quickErrorDelay, quickClassifying, quickPowerUp, quickPowerOn, quickTestMode, quickIn}
 use Rattle.quick.specs.Sweep.{wrapped, counted, running, signsBy, moves, looked, lookedAt, isMarked, lookedCells, sweepable}
 
 -- ---- it is the quick answer
 
-abbrev pub isCounted : Glance → Bool
+abbrev pub isCounted : QuickAnswer → Bool
 isCounted (Counted c) = true
 isCounted Whole = false
 
 -- the counters that a glance leaves
-abbrev pub glanced : Glance → Counts → Counts
+abbrev pub glanced : QuickAnswer → Counts → Counts
 glanced (Counted c) d = c
 glanced Whole d = d
 
-abbrev pub shown : Glance → Counts → Look
+abbrev pub shown : QuickAnswer → Counts → Look
 shown g c = record { counts = glanced g c; mark = cond (isCounted g) 0 65535 }
 
 -- the enable that a code below 3 names
@@ -114,7 +114,7 @@ chosen-same : (t : Bool) (c : Counts) → record { counts = c; mark = cond t 0 6
 chosen-same true c = refl
 chosen-same false c = refl
 
-module _ (s : Signs) (c : Counts) where
+module _ (s : FlagsShown) (c : Counts) where
   abbrev lim′ : ℕ
   lim′ = running (s .limiting) (c .limiting)
 

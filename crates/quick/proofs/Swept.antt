@@ -17,7 +17,7 @@ use Rattle.power.specs.declared.Power.{Power}
 use Rattle.control.specs.Control.{enableOf}
 use Rattle.control.specs.declared.Enable.{Enable}
 use Rattle.control.specs.declared.Enable.the-variants.{Disabled as Off, Enabled, Forced, Reserved}
-use Rattle.port.specs.Form.{withCounts, quietly}
+use Rattle.port.specs.Changes.{withCounts, quietly}
 use Rattle.port.specs.declared.form.Counts.{Counts}
 use Rattle.port.specs.declared.form.Port.{Port}
 use Rattle.port.specs.declared.form.Reading.{Reading}
@@ -30,8 +30,8 @@ use Rattle.cells.proofs.Pass.{stage, pass-none, pass-counts, pass-all}
 use Rattle.quick.proofs.Quick.{signsOf, quickIn, quickly, quick-is-step}
 use Rattle.quick.specs.Sweep.{signsBy, looked, lookedAt, isMarked, lookedCells}
 use Rattle.quick.proofs.SweepLaws.{Small, isCounted, glanced, shown, enableNo, look-is}
-use Rattle.quick.specs.declared.Glance.{Glance}
-use Rattle.quick.specs.declared.Glance.the-variants.{Counted, Whole}
+use Rattle.quick.specs.declared.QuickAnswer.{QuickAnswer}
+use Rattle.quick.specs.declared.QuickAnswer.the-variants.{Counted, Whole}
 use Rattle.quick.specs.declared.Look.{Look}
 
 -- what the pass asks of a port's cells: a state that there is, an enable code that is not reserved, counters within bounds
@@ -96,10 +96,10 @@ module _ (claim : Power) (flags : ℕ) (l : List ℕ) (p : ℕ) (f : Fair l p) (
   unfolding swept
   unmarked-moves e = go (quickly (portOf l p) (signsBy flags)) refl (sym marked-is ∙ e)
     where
-      go : (g : Glance) → quickly (portOf l p) (signsBy flags) ≡ g → not (isCounted g) ≡ false → step claim (portOf l p) r ≡ quietly (withCounts (glanced (quickly (portOf l p) (signsBy flags)) (portOf l p .counts)) (portOf l p))
+      go : (g : QuickAnswer) → quickly (portOf l p) (signsBy flags) ≡ g → not (isCounted g) ≡ false → step claim (portOf l p) r ≡ quietly (withCounts (glanced (quickly (portOf l p) (signsBy flags)) (portOf l p .counts)) (portOf l p))
       go (Counted c) q h =
           quick-is-step claim (portOf l p) r c (ap (quickly (portOf l p)) signs ∙ q)
-          ∙ ap (λ (x : Glance). quietly (withCounts (glanced x (portOf l p .counts)) (portOf l p))) (sym q)
+          ∙ ap (λ (x : QuickAnswer). quietly (withCounts (glanced x (portOf l p .counts)) (portOf l p))) (sym q)
       go Whole q h = absurd (true≢false h)
 
   -- and one that is marked is as it was
@@ -107,6 +107,6 @@ module _ (claim : Power) (flags : ℕ) (l : List ℕ) (p : ℕ) (f : Fair l p) (
   unfolding swept
   marked-stays e = go (quickly (portOf l p) (signsBy flags)) refl (sym marked-is ∙ e)
     where
-      go : (g : Glance) → quickly (portOf l p) (signsBy flags) ≡ g → not (isCounted g) ≡ true → withCounts (glanced (quickly (portOf l p) (signsBy flags)) (portOf l p .counts)) (portOf l p) ≡ portOf l p
+      go : (g : QuickAnswer) → quickly (portOf l p) (signsBy flags) ≡ g → not (isCounted g) ≡ true → withCounts (glanced (quickly (portOf l p) (signsBy flags)) (portOf l p .counts)) (portOf l p) ≡ portOf l p
       go (Counted c) q h = absurd (false≢true h)
-      go Whole q h = ap (λ (x : Glance). withCounts (glanced x (portOf l p .counts)) (portOf l p)) q
+      go Whole q h = ap (λ (x : QuickAnswer). withCounts (glanced x (portOf l p .counts)) (portOf l p)) q

@@ -15,7 +15,7 @@ use Rattle.port.specs.declared.form.Counts.{Counts}
 use Rattle.cells.specs.Cells.{cellsLong, countCell, countsOf}
 use Rattle.cells.specs.Writes.{withCountCells}
 use Rattle.quick.specs.declared.Look.{Look}
-use Rattle.quick.specs.declared.Signs.{Signs}
+use Rattle.quick.specs.declared.FlagsShown.{FlagsShown}
 
 -- ---- what the code does with a port's numbers
 
@@ -30,7 +30,7 @@ abbrev pub running : Bool → ℕ → ℕ
 running runs n = cond runs (wrapped n) 0
 
 -- what the flags show, of numbers below 64
-unfoldable pub signsBy : ℕ → Signs
+unfoldable pub signsBy : ℕ → FlagsShown
 signsBy flags =
     record {
       detected = eqb (flags % 2) 1;
@@ -41,7 +41,7 @@ signsBy flags =
       load = leb 32 flags;
     }
 
-module _ (k e d : ℕ) (s : Signs) (c : Counts) where
+module _ (k e d : ℕ) (s : FlagsShown) (c : Counts) where
   -- a state's code k, the enable code e, the demand, the signs and the counters
   abbrev key : ℕ
   key = (e * 16 + k) % 2 ^ 16

@@ -17,7 +17,7 @@ ghost use Rattle.cells.specs.Writes.{withCountCells};
 ghost use Rattle.quick.specs.Sweep.{counted, running, signsBy, looked, lookedAt, isMarked, lookedCells, lookedLane, sweepable, sweptCells, sweptLane, sweptLeft};
 
 // What a reading shows before the signature and the class are worked out.
-pub struct Signs {
+pub struct FlagsShown {
     pub detected: bool,
     pub classed: bool,
     pub settled: bool,
@@ -26,7 +26,7 @@ pub struct Signs {
     pub load: bool,
 }
 
-pub enum Glance {
+pub enum QuickAnswer {
     // The move sets the counters to these, and changes nothing else.
     Counted(Counts),
     // Only the whole step tells.

@@ -12,8 +12,8 @@ use Rattle.fields.specs.declared.Fields.{Fields}
 use Rattle.fields.specs.declared.Form.{Form}
 use Rattle.fields.specs.declared.Form.the-variants.{Short, Long}
 use Rattle.fields.specs.declared.Added.{Added}
-use Rattle.reader.specs.declared.Taken.{Taken}
-use Rattle.reader.specs.declared.Taken.the-variants.{Is, Refused}
+use Rattle.reader.specs.declared.ReadAnswer.{ReadAnswer}
+use Rattle.reader.specs.declared.ReadAnswer.the-variants.{Is, Refused}
 
 -- refusal 6, "For the reader, fewer than two bytes, or fewer than the header says"
 unfoldable pub cut : List ℕ → Bool
@@ -46,5 +46,5 @@ fieldsIn bytes = record { support = getD bytes 6 0; pair = getD bytes 7 0; class
 abbrev pub readRefusals : List ℕ → List (ℕ × Bool)
 readRefusals bytes = (6, cut bytes) ∷ (9, not (exactlyOne bytes)) ∷ (10, badValues (formIn bytes)) ∷ []
 
-unfoldable pub readOf : List ℕ → Taken
+unfoldable pub readOf : List ℕ → ReadAnswer
 readOf bytes = ladder (readRefusals bytes) Refused (Is (fieldsIn bytes))

@@ -13,7 +13,7 @@ ghost use lib.ListN.{length};
 ghost use Rattle.header.specs.Header.{sizeAt};
 ghost use Rattle.reader.specs.Read.{exactlyOne, addedIn, formIn, readOf};
 
-pub enum Taken {
+pub enum ReadAnswer {
     Is(Fields),
     Refused(u8),
 }
@@ -60,23 +60,23 @@ fn form_in(bytes: &[u8]) -> Form
 }
 
 // Nothing is asked of the bytes: whatever they are, they have an answer.
-pub fn read(bytes: &[u8]) -> Taken
+pub fn read(bytes: &[u8]) -> ReadAnswer
     ensures { λ r. ⌜ r ≡ readOf (now (bytes .entry)) ⌝ }
 {
     if bytes.len() < 2 {
-        return Taken::Refused(6);
+        return ReadAnswer::Refused(6);
     }
     if bytes.len() < 2 + length_at(bytes, 0) {
-        return Taken::Refused(6);
+        return ReadAnswer::Refused(6);
     }
     if !exactly_one(bytes) {
-        return Taken::Refused(9);
+        return ReadAnswer::Refused(9);
     }
     let form = form_in(bytes);
     if bad_values(form) {
-        return Taken::Refused(10);
+        return ReadAnswer::Refused(10);
     }
-    Taken::Is(Fields {
+    ReadAnswer::Is(Fields {
         support: bytes[6],
         pair: bytes[7],
         class: bytes[8],

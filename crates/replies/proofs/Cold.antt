@@ -16,7 +16,7 @@ use Rattle.lists.specs.Places.{tabulate}
 use Rattle.lists.proofs.Places.{side, length-tabulate, getD-tabulate}
 use Rattle.lists.proofs.Tests.{and-left, and-right}
 use Rattle.port.specs.declared.form.Port.{Port}
-use Rattle.table.specs.Form.{noPort, portAt}
+use Rattle.table.specs.Parts.{noPort, portAt}
 use Rattle.cells.specs.Cells.{cellsLong, fieldsOf, isOfPort, cellsOf}
 use Rattle.cells.specs.Codes.{latchByte}
 use Rattle.cells.proofs.Laws.{is-written}

@@ -15,7 +15,7 @@ use Rattle.power.specs.declared.Power.{Power}
 use Rattle.port.specs.States.{closed}
 use Rattle.port.specs.declared.form.Port.{Port}
 use Rattle.table.specs.Drawn.{draws}
-use Rattle.table.specs.Form.{portAt, withPort, done, refuse, refuseStatus}
+use Rattle.table.specs.Parts.{portAt, withPort, done, refuse, refuseStatus}
 use Rattle.table.specs.WellMade.{illMade}
 use Rattle.cells.specs.Cells.{countCell, portOf, tableOf, isTable, cellsWith}
 use Rattle.cells.specs.Codes.{stateOf, latchByte, latchesOf}
@@ -25,7 +25,7 @@ use Rattle.well.specs.Judged.{wellCells}
 use Rattle.well.proofs.Laws.{cells-of, ill-cells, well-goes}
 use Rattle.replies.specs.Calls.{withControl, controlRefusals, writeControl, unlatched, statusAt, readStatus, levelOf, demanding, granting, requestRefusals, request}
 use Rattle.replies.specs.OnCells.{controlOn, statusOn, requestOn}
-use Rattle.replies.specs.OnLaws.{AtPort, controlRest, requestRest}
+use Rattle.replies.specs.Rest.{AtPort, controlRest, requestRest}
 
 pub at-port : (l : List ℕ) (p : ℕ) → wellCells l ≡ true → p < countCell l → AtPort l p
 at-port l p e h = let c = cells-of l e in record { well = e; below = h; few = c .few-ports; long = c .long; class = c .class p h }

@@ -12,15 +12,15 @@ use Rattle.power.specs.declared.Power.{Power}
 use Rattle.class.specs.Class.{budgetOf}
 use Rattle.control.specs.Control.{refused}
 use Rattle.status.specs.Status.{noLatches, statusWord}
-use Rattle.port.specs.Form.{withDemand, withLatches}
+use Rattle.port.specs.Changes.{withDemand, withLatches}
 use Rattle.port.specs.declared.form.Port.{Port}
 use Rattle.port.specs.declared.form.State.the-variants.{Disabled}
 use Rattle.port.specs.States.{condition, inDisabled, inPowerOn}
 use Rattle.table.specs.declared.form.Table.{Table}
-use Rattle.table.specs.declared.form.Told.{Told}
+use Rattle.table.specs.declared.form.Replied.{Replied}
 use Rattle.table.specs.declared.form.StatusRead.{StatusRead}
 use Rattle.table.specs.Drawn.{closedSum}
-use Rattle.table.specs.Form.{portAt, withPort, done, refuse, tells, refuseStatus, zeroCounts}
+use Rattle.table.specs.Parts.{portAt, withPort, done, refuse, tells, refuseStatus, zeroCounts}
 use Rattle.table.specs.WellMade.{illMade}
 
 -- "A cold start gives every port DISABLED, control 0x0004, no latch, zero counters, class and demand 0, stored supply 0."
@@ -36,7 +36,7 @@ abbrev pub coldRefusals : ℕ → List (ℕ × Bool)
 coldRefusals n = (2, eqb n 0 || ltb mostPorts n) ∷ []
 
 -- beside the number stands a table of no ports, which every call refuses with 13
-unfoldable pub coldStart : ℕ → Told
+unfoldable pub coldStart : ℕ → Replied
 coldStart n = ladder (coldRefusals n) (λ k. refuse k (coldTable 0)) (done (coldTable n))
 
 -- two words have the same pair control
@@ -56,7 +56,7 @@ controlRefusals t p w =
     ∷ (5, not (sameAlternative (portAt t p .control) w) && not (inDisabled (portAt t p .state)))
     ∷ []
 
-unfoldable pub writeControl : Table → ℕ → ℕ → Told
+unfoldable pub writeControl : Table → ℕ → ℕ → Replied
 writeControl t p w = ladder (controlRefusals t p w) (λ k. refuse k t) (done (withPort p (withControl w (portAt t p)) t))
 
 unfoldable pub unlatched : Port → Port
@@ -101,5 +101,5 @@ requestRefusals t p v =
     ∷ (12, overSupply (levelOf v) p t)
     ∷ []
 
-unfoldable pub request : Table → ℕ → ℕ → Told
+unfoldable pub request : Table → ℕ → ℕ → Replied
 request t p v = ladder (requestRefusals t p v) (λ k. refuse k t) (done (granting (levelOf v) p t))

@@ -14,7 +14,7 @@ use Rattle.lists.specs.Count.{count}
 use Rattle.lists.proofs.Count.{count-either}
 use Rattle.lists.proofs.Every.{every-of}
 use Rattle.lists.proofs.Places.{side}
-use Rattle.lists.specs.Tests.{choice}
+use Rattle.lists.proofs.Tests.{choice}
 use Rattle.lists.proofs.Total.{total-cong, total-less}
 use Rattle.power.specs.Power.{forced, tenths}
 use Rattle.power.specs.declared.Power.{Power}
@@ -33,7 +33,7 @@ use Rattle.diagram.specs.Step.{step}
 use Rattle.settling.specs.Settle.{granted, shed, settled}
 use Rattle.block.specs.Digest.{digest}
 use Rattle.table.specs.Drawn.{closedAt}
-use Rattle.table.specs.Form.{portAt}
+use Rattle.table.specs.Parts.{portAt}
 use Rattle.table.proofs.Laws.{well-count}
 use Rattle.table.specs.WellMade.{wellMade}
 use Rattle.table.specs.declared.form.Closed.{Closed}
@@ -57,12 +57,12 @@ use Rattle.interface.proofs.Laws.{next-call, zero-ticked, calls, untouched}
 use Rattle.interface.specs.Statement1C.{firstNumber, tickList}
 use Rattle.interface.proofs.Statement1C.{statement-1-c}
 use Rattle.statements.specs.History.{accepted}
-use Rattle.statements.proofs.Kept.{tick-well}
+use Rattle.statements.proofs.StaysWellMade.{tick-well}
 use Rattle.statements.proofs.Reached.{Ran, Stopped, tick-told, in-range}
 use Rattle.statements.specs.Statement2.{Ticks, moves}
 use Rattle.statements.proofs.Statement2.{statement-2}
 use Rattle.second.specs.Answers.{agree, closedCell, namedCell, bitsRight, apart, answerRight}
-use Rattle.second.specs.Kept.{mayChange, restKept}
+use Rattle.second.specs.Untouched.{mayChange, restKept}
 use Rattle.second.specs.Second.{tickRight}
 
 -- ---- no move and no settling changes a control word

@@ -1,4 +1,4 @@
 pub mod Answers
-pub mod Kept
+pub mod Untouched
 pub mod Second
 pub mod Unique

@@ -7,7 +7,7 @@ use lib.Dec.{eqb}
 use lib.ListN.{getD}
 use Rattle.table.specs.declared.form.Closed.{Closed}
 use Rattle.second.specs.Answers.{answerRight}
-use Rattle.second.specs.Kept.{restKept}
+use Rattle.second.specs.Untouched.{restKept}
 
 -- what is looked at: the answer, the figure's cell, and the rest
 unfoldable pub tickRight : List ℕ → List ℕ → Closed → ℕ → Bool

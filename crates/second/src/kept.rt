@@ -2,7 +2,7 @@
 ghost use mathlib.Core.Path.{_≡_};
 ghost use Prim.Native.Nat.{_<_};
 ghost use lib.ListN.{length};
-ghost use Rattle.second.specs.Kept.{mayChange, restKept};
+ghost use Rattle.second.specs.Untouched.{mayChange, restKept};
 
 // A tick may change the stored figure, cell 1, and the fields of a port below the count except the control words, which stand from cell 56
 // on. Field f of port p stands in cell 8 + 48 f + p, and there are twelve fields: what comes after is nobody's. So "places at or past the

@@ -12,22 +12,22 @@ use lib.Seq.{take-at, drop-at}
 use borrow.Author.Tests.{lt-ltb, le-ltb, eq-eqb, ltb-true, ltb-false, eqb-true}
 use Rattle.lists.specs.Bits.{field}
 use Rattle.lists.proofs.Ladder.{ladder-value}
-use Rattle.lists.specs.Table.{all}
+use Rattle.lists.specs.Entries.{all}
 use Rattle.lists.proofs.Tests.{or-either}
 use Rattle.header.specs.Header.{lengthAt}
 use Rattle.fields.specs.declared.Fields.{Fields}
 use Rattle.fields.specs.declared.Form.{Form}
 use Rattle.fields.specs.declared.Form.the-variants.{Short, Long}
 use Rattle.reader.specs.Read.{readOf}
-use Rattle.reader.specs.declared.Taken.{Taken}
-use Rattle.reader.specs.declared.Taken.the-variants.{Is as Took}
-use Rattle.reader.proofs.One.{whole, lengths}
+use Rattle.reader.specs.declared.ReadAnswer.{ReadAnswer}
+use Rattle.reader.specs.declared.ReadAnswer.the-variants.{Is as Took}
+use Rattle.reader.proofs.ExactlyOne.{whole, lengths}
 use Rattle.writer.specs.Write.{bytesOf, writeRefusals, writtenOf, left, roomAfter}
 use Rattle.writer.specs.declared.Written.{Written}
 use Rattle.writer.specs.declared.Written.the-variants.{Is as Wrote, Refused as NotWritten}
 use Rattle.tlv.specs.Laws.{isByte}
-use Rattle.tlv.proofs.Again.{taken, read-rewrites}
-use Rattle.tlv.proofs.Back.{written-reads}
+use Rattle.tlv.proofs.ReadRewrites.{taken, read-rewrites}
+use Rattle.tlv.proofs.WrittenReads.{written-reads}
 use Rattle.judge.specs.Alike.{alike}
 use Rattle.judge.proofs.Alike.{alike-self}
 use Rattle.second_frames.specs.Asks.{zeroSent}
@@ -70,7 +70,7 @@ module _ (f : Fields) (room : List ℕ) (n : ℕ) (e : writtenOf f room ≡ Wrot
   right : writtenRight f n (roomAfter f room) room ≡ true
   unfolding writtenRight readsAs
   right =
-      let reads : isTaken (readOf (take n (roomAfter f room))) f ≡ true = ap (λ (t : Taken). isTaken t f) (written-reads f room n e) ∙ fields-self f in
+      let reads : isTaken (readOf (take n (roomAfter f room))) f ≡ true = ap (λ (t : ReadAnswer). isTaken t f) (written-reads f room n e) ∙ fields-self f in
       simp (eq-eqb n (tlvSize (f .form)) (sym size ∙ sized (f .support) (f .pair) (f .class) (f .form)), long, le-ltb (length room) n fits, reads, past-kept)
 
 -- what the program has in hand

@@ -14,8 +14,8 @@ use Rattle.fields.specs.declared.Fields.{Fields}
 use Rattle.fields.specs.declared.Form.{Form}
 use Rattle.fields.specs.declared.Form.the-variants.{Short, Long}
 use Rattle.reader.specs.Read.{readOf}
-use Rattle.reader.specs.declared.Taken.{Taken}
-use Rattle.reader.specs.declared.Taken.the-variants.{Is as Took, Refused as NotTaken}
+use Rattle.reader.specs.declared.ReadAnswer.{ReadAnswer}
+use Rattle.reader.specs.declared.ReadAnswer.the-variants.{Is as Took, Refused as NotTaken}
 use Rattle.judge.specs.Alike.{alike}
 use Rattle.judge.proofs.Alike.{alike-is}
 use Rattle.second_frames.specs.Right.{tlvSize, isTaken, readsAs, writtenRight, rewrittenRight}
@@ -63,7 +63,7 @@ fields-are x y e =
     λ i. record { support = support i; pair = pair i; class = class i; form = form i }
 
 -- whatever the reader answered
-pub taken-is : (t : Taken) (f : Fields) → isTaken t f ≡ true → t ≡ Took f
+pub taken-is : (t : ReadAnswer) (f : Fields) → isTaken t f ≡ true → t ≡ Took f
 taken-is (Took g) f e = ap Took (fields-are g f e)
 taken-is (NotTaken k) f e = absurd (false≢true e)
 

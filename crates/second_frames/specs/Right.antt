@@ -9,8 +9,8 @@ use Rattle.fields.specs.declared.Fields.{Fields}
 use Rattle.fields.specs.declared.Form.{Form}
 use Rattle.fields.specs.declared.Form.the-variants.{Short, Long}
 use Rattle.reader.specs.Read.{readOf}
-use Rattle.reader.specs.declared.Taken.{Taken}
-use Rattle.reader.specs.declared.Taken.the-variants.{Is as Took, Refused as NotTaken}
+use Rattle.reader.specs.declared.ReadAnswer.{ReadAnswer}
+use Rattle.reader.specs.declared.ReadAnswer.the-variants.{Is as Took, Refused as NotTaken}
 use Rattle.judge.specs.Alike.{alike}
 use Rattle.second_frames.specs.Same.{sameFields}
 
@@ -19,7 +19,7 @@ abbrev pub tlvSize : Form → ℕ
 tlvSize Short = 9
 tlvSize (Long a) = 14
 
-abbrev pub isTaken : Taken → Fields → Bool
+abbrev pub isTaken : ReadAnswer → Fields → Bool
 isTaken (Took g) f = sameFields g f
 isTaken (NotTaken k) f = false
 

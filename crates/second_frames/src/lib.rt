@@ -9,7 +9,7 @@ use fields::Form;
 use judge::same_bytes;
 use order_frames::read_number;
 use order_frames::write_number;
-use reader::Taken;
+use reader::ReadAnswer;
 use reader::read;
 use verdict::Verdict;
 use writer::Written;
@@ -35,8 +35,8 @@ fn reads_as(tlv: &[u8], fields: Fields) -> bool
     ensures { λ r. ⌜ r ≡ readsAs (now (tlv .entry)) fields ⌝ }
 {
     match read(tlv) {
-        Taken::Is(found) => same_fields(found, fields),
-        Taken::Refused(_) => false,
+        ReadAnswer::Is(found) => same_fields(found, fields),
+        ReadAnswer::Refused(_) => false,
     }
 }
 
@@ -115,7 +115,7 @@ pub fn second_read(bytes: &[u8]) -> Verdict
     // A room that is longer than a TLV, and that holds something else.
     let before = [0xa5u8; 16];
     let mut room = before;
-    let Taken::Is(fields) = read(bytes) else {
+    let ReadAnswer::Is(fields) = read(bytes) else {
         return Verdict::Broken;
     };
     let Written::Is(size) = write(fields, &mut room) else {

@@ -13,7 +13,7 @@ use lib.ListN.{getD}
 use borrow.Author.Tests.{lt-ltb, lt-leb, ltb-true, leb-true, eqb-true}
 use Rattle.lists.proofs.Every.{every-at}
 use Rattle.lists.proofs.Tests.{passed, and-left, and-right, and-both, or-left, or-right, or-either}
-use Rattle.lists.specs.Tests.{choice}
+use Rattle.lists.proofs.Tests.{choice}
 use Rattle.lists.proofs.Total.{total-cong}
 use Rattle.share.proofs.Laws.{before-cases, before-total, met-cases, met-claims, sum-less, fits-kept, down-to, shed-after}
 use Rattle.share.specs.Share.{claims, before, met, sumWhere, down, keeps}

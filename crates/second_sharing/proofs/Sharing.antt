@@ -27,7 +27,7 @@ use Rattle.settling.specs.Settle.{urgency, settled}
 use Rattle.block.specs.Digest.{digest}
 use Rattle.share.proofs.Laws.{before-cases, before-total, kept-claims, shed-after, longest, kept-sum-fits}
 use Rattle.share.specs.Share.{claims, before, sumWhere, keeps, keptSum}
-use Rattle.table.specs.Form.{portAt}
+use Rattle.table.specs.Parts.{portAt}
 use Rattle.table.proofs.Laws.{well-count}
 use Rattle.table.specs.declared.form.Table.{Table}
 use Rattle.cells.specs.Cells.{tableOf, portOf, portHolds, isTable}

@@ -17,7 +17,7 @@ use Rattle.port.specs.declared.form.Port.{Port}
 use Rattle.port.specs.declared.form.Moved.{Moved}
 use Rattle.port.specs.States.{closed}
 use Rattle.settling.specs.Settle.{urgency, rank, granted, shed, settled}
-use Rattle.port.specs.Form.{quietly}
+use Rattle.port.specs.Changes.{quietly}
 use Rattle.share.specs.Share.{noClaim}
 use Rattle.settling.specs.Claim.{rankIn, settledAs, settlingChanges}
 

@@ -10,7 +10,7 @@ use Rattle.port.specs.declared.form.Port.{Port}
 use Rattle.port.specs.declared.form.Moved.{Moved}
 use Rattle.port.specs.States.{closed}
 use Rattle.settling.specs.Settle.{urgency, granted, shed}
-use Rattle.port.specs.Form.{quietly}
+use Rattle.port.specs.Changes.{quietly}
 use Rattle.share.specs.Share.{noClaim}
 
 -- the rank, by the state after the move, the control word and whether the port asks

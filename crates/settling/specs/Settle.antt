@@ -10,7 +10,7 @@ use Rattle.port.specs.declared.form.State.the-variants.{Disabled, Idle, Detecti
 use Rattle.port.specs.declared.form.Port.{Port}
 use Rattle.port.specs.declared.form.Moved.{Moved}
 use Rattle.port.specs.States.{closed}
-use Rattle.port.specs.Form.{quietly, latching, latchDenied}
+use Rattle.port.specs.Changes.{quietly, latching, latchDenied}
 use Rattle.port.specs.Entry.{enter}
 use Rattle.share.specs.Share.{noClaim}
 use Rattle.port.specs.States.{inTest}

@@ -1,6 +1,6 @@
 pub mod Cases
 pub mod Given
 pub mod Laws
-pub mod Passes
+pub mod Slots
 pub mod Sums
 pub mod WalkLaws

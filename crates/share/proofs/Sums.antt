@@ -23,8 +23,8 @@ use Rattle.power.proofs.PowerLaws.{plus-exact, join-exact}
 use Rattle.power.specs.declared.Power.{Power}
 use Rattle.power.specs.declared.Sum.{Sum}
 use Rattle.share.specs.Share.{claims, before, met, sumWhere, down, keeps, claimedSum}
-use Rattle.share.specs.Passes.{Small, within, slotOf, ofSlot, joined}
-use Rattle.share.proofs.Passes.{ofLower}
+use Rattle.share.specs.Slots.{Small, within, slotOf, ofSlot, joined}
+use Rattle.share.proofs.Slots.{ofLower}
 use Rattle.share.proofs.Laws.{sum-none, met-self, met-before, met-cases, before-rank, before-place, before-trans, before-self}
 
 cond-none : (b : Bool) → _≡_ {A = ℕ} (cond b 0 0) 0

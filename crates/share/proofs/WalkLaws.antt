@@ -8,7 +8,7 @@ use native.Mathlib.Nat.{le-refl}
 use native.Mathlib.Omega.{arith}
 use lib.Dec.{ltb, leb, eqb}
 use borrow.Author.Tests.{lt-ltb, le-ltb, eq-eqb, ne-eqb, eqb-true}
-use Rattle.lists.specs.Table.{some}
+use Rattle.lists.specs.Entries.{some}
 use Rattle.lists.proofs.Tests.{passed, not-both, choice-on, or-left}
 use Rattle.lists.proofs.Total.{total-cong}
 use Rattle.lists.proofs.Places.{side}

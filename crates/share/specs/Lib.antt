@@ -1,5 +1,5 @@
 pub mod Cases
 pub mod Given
-pub mod Passes
+pub mod Slots
 pub mod Share
 pub mod Walk

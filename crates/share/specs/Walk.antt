@@ -4,7 +4,7 @@ use Prim.Native.Nat.{ℕ, zero, suc, _+_}
 use mathlib.Core.Bool.{Bool, cond}
 use mathlib.Core.List.{List, [], _∷_, _++_}
 use lib.Dec.{leb, eqb}
-use Rattle.lists.specs.Table.{some}
+use Rattle.lists.specs.Entries.{some}
 use Rattle.share.specs.Share.{noClaim}
 
 -- the places below n whose rank is k; "then lower port number"

@@ -9,7 +9,7 @@ ghost use Rattle.lists.specs.Places.{tabulate};
 ghost use Rattle.power.specs.Power.{sumOf};
 ghost use Rattle.share.specs.Share.{keeps};
 ghost use Rattle.share.specs.Given.{rankOf, demandOf};
-ghost use Rattle.share.specs.Passes.{Small, within, slotOf, ofSlot, joined};
+ghost use Rattle.share.specs.Slots.{Small, within, slotOf, ofSlot, joined};
 
 // Ranks 0 to 5: ports that were closed before those that ask, and within each critical, high, then low and unknown alike. After them:
 pub const NO_CLAIM: u8 = 6;

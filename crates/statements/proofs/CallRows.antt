@@ -5,7 +5,7 @@ use mathlib.Core.Bool.{Bool}
 use mathlib.Core.List.{[], _∷_, map}
 use Rattle.lists.specs.Bits.{field, above}
 use Rattle.lists.specs.Every.{someBelow}
-use Rattle.lists.specs.Table.{some}
+use Rattle.lists.specs.Entries.{some}
 use Rattle.lists.specs.Total.{total}
 use Rattle.power.specs.Power.{tenths, over, fits}
 use Rattle.class.specs.Class.{budgetOf, isDemand}
@@ -17,7 +17,7 @@ use Rattle.port.specs.declared.form.State.the-variants.{Disabled, Idle, Detecti
 use Rattle.port.specs.States.{condition}
 use Rattle.replies.specs.Calls.{coldTable, coldStart, sameAlternative, withControl, writeControl, unlatched, statusAt, readStatus, levelOf, demanding, overSupply, request}
 use Rattle.table.specs.Drawn.{draws, closedSum}
-use Rattle.table.specs.Form.{zeroCounts, portAt, withPort, done, refuse, tells, refuseStatus, refuseTick}
+use Rattle.table.specs.Parts.{zeroCounts, portAt, withPort, done, refuse, tells, refuseStatus, refuseTick}
 use Rattle.boards.specs.Masks.{answered}
 use Rattle.passes.specs.Tick.{tick, flagsReserved}
 use Rattle.table.specs.WellMade.{illPort, illMade, wellMade}
@@ -25,7 +25,8 @@ use Rattle.table.specs.declared.form.Answer.the-variants.{Done}
 use Rattle.table.specs.declared.form.Status.the-variants.{Word}
 use Rattle.table.specs.declared.form.Table.{Table}
 use Rattle.statements.specs.Statement1.{Outcome}
-use Rattle.statements.specs.CallRows.{port, table, tables, Question, meaning, calls, latched, cleared}
+use Rattle.statements.specs.TableRows.{port, table, tables}
+use Rattle.statements.specs.CallRows.{Question, meaning, calls, latched, cleared}
 
 pub tables-hold : map (λ (r : Table × Bool). wellMade (r .0)) tables ≡ map (λ (r : Table × Bool). r .1) tables
 unfolding tables wellMade illMade illPort over someBelow portAt refused field above isDemand some

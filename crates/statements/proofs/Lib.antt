@@ -1,11 +1,11 @@
 pub mod CallRows
 pub mod Cases
-pub mod Kept
+pub mod StaysWellMade
 pub mod Limits
 pub mod MoveRows
 pub mod OtherBoard
 pub mod Reached
-pub mod Shows
+pub mod KeepsShown
 pub mod Statement1
 pub mod Statement2
 pub mod Statement3

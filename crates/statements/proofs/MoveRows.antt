@@ -15,7 +15,10 @@ use Rattle.settling.specs.Settle.{rank, granted, shed, settled}
 use Rattle.diagram.specs.Step.{byState, step}
 use Rattle.port.specs.declared.form.Counts.{Counts}
 use Rattle.port.specs.declared.form.State.the-variants.{Idle, Classifying}
-use Rattle.statements.specs.MoveRows.{on, force, counts, Before, Goes, move, rows, before, counted, counters, Ending, ended, endings, moved, Ranks, ranked, claims, Settles, settles, Rests, resting, rests, asker}
+use Rattle.statements.specs.MoveWords.{on, force, counts, Before, Goes, move}
+use Rattle.statements.specs.MoveRows.{rows}
+use Rattle.statements.specs.CounterRows.{before, counted, counters, Ending, ended, endings}
+use Rattle.statements.specs.ShareRows.{moved, Ranks, ranked, claims, Settles, settles, Rests, resting, rests, asker}
 
 pub rows-hold : map (λ (r : Before × Goes). move (r .0)) rows ≡ map (λ (r : Before × Goes). r .1) rows
 unfolding rows move step byState enableOf pairOf field up during idle detected detecting backoff errorDelay classed classifying stressed watched risen powerUp powerOn testMode testError enter

@@ -6,8 +6,8 @@ use mathlib.Core.Bool.{true, false}
 use mathlib.Core.List.{List}
 use lib.Dec.{eqb}
 use lib.ListN.{getD}
-use Rattle.lists.specs.Table.{some}
-use Rattle.lists.specs.Tests.{choice}
+use Rattle.lists.specs.Entries.{some}
+use Rattle.lists.proofs.Tests.{choice}
 use Rattle.power.specs.Power.{atMost, highestSupply}
 use Rattle.power.specs.declared.Power.{Power}
 use Rattle.status.proofs.Laws.{join-none}
@@ -21,10 +21,10 @@ use Rattle.port.specs.declared.form.State.the-variants.{Idle}
 use Rattle.boards.proofs.Laws.{Opens, Tells, more-closes, closed-fits, latches-after}
 use Rattle.boards.proofs.MaskLaws.{closed-number}
 use Rattle.boards.specs.Sharing.{tableAfter}
-use Rattle.boards.proofs.Well.{Wells, after-well}
-use Rattle.table.specs.Form.{portAt}
+use Rattle.boards.proofs.SettlesWell.{Wells, after-well}
+use Rattle.table.specs.Parts.{portAt}
 use Rattle.table.proofs.Laws.{well-count}
-use Rattle.table.proofs.Well.{Well, enter-well, table-of}
+use Rattle.table.proofs.WellMadePorts.{Well, enter-well, table-of}
 use Rattle.table.specs.WellMade.{wellMade}
 use Rattle.table.specs.declared.form.Table.{Table}
 use Rattle.statements.specs.OtherBoard.{pulled, pulledAt, Shared}
@@ -45,10 +45,10 @@ module _ (lever : ℕ) (p : Port) where
   pulled-told : pulled lever p .port .latches ≡ join (p .latches) (pulled lever p .latched)
   unfolding pulled enter
   pulled-told =
-      choice Told (eqb lever 0) _ _ (join-none (p .latches)) (choice Told (closed (p .state)) _ _ (join-none (p .latches)) (join-none (p .latches)))
+      choice Replied (eqb lever 0) _ _ (join-none (p .latches)) (choice Replied (closed (p .state)) _ _ (join-none (p .latches)) (join-none (p .latches)))
     where
-      Told : Moved → Type 0
-      Told m = m .port .latches ≡ join (p .latches) (m .latched)
+      Replied : Moved → Type 0
+      Replied m = m .port .latches ≡ join (p .latches) (m .latched)
 
 pub shared : (t : Table) (levers : List ℕ) (less more : Power) → wellMade t ≡ true → less .0 ≤ more .0 → atMost more highestSupply ≡ true → Shared t levers less more
 shared t levers less more w l h =

@@ -21,8 +21,8 @@ use Rattle.port.specs.declared.form.State.{State}
 use Rattle.port.specs.States.{isIdle}
 use Rattle.replies.specs.Calls.{coldPort, coldTable, coldStart, withControl, controlRefusals, writeControl, unlatched, statusRefusals, statusAt, readStatus, levelOf, demanding, requestRefusals, request}
 use Rattle.block.specs.Digest.{digest}
-use Rattle.table.specs.Form.{noPort, portAt, withPort, done, refuse, tells, refuseStatus, refuseTick}
-use Rattle.statements.proofs.Kept.{tick-well, controlled-well, unlatched-well, demanding-well, cold-well}
+use Rattle.table.specs.Parts.{noPort, portAt, withPort, done, refuse, tells, refuseStatus, refuseTick}
+use Rattle.statements.proofs.StaysWellMade.{tick-well, controlled-well, unlatched-well, demanding-well, cold-well}
 use Rattle.table.proofs.Laws.{well-count}
 use Rattle.boards.proofs.Laws.{count-after, port-here}
 use Rattle.boards.specs.Sharing.{rankAt, keptAt, settledAt, tableAfter}
@@ -32,9 +32,9 @@ use Rattle.table.specs.WellMade.{wellMade}
 use Rattle.table.specs.declared.form.Table.{Table}
 use Rattle.table.specs.declared.form.StatusRead.{StatusRead}
 use Rattle.table.specs.declared.form.Ticked.{Ticked}
-use Rattle.table.specs.declared.form.Told.{Told}
+use Rattle.table.specs.declared.form.Replied.{Replied}
 use Rattle.statements.specs.History.{Call, control, status, requested as asked, ticked, after, reached, accepted, Shown, nothing, seen, adds, shown}
-use Rattle.statements.proofs.Shows.{Needs, idle-needs, tick-needs, tick-needs-idle}
+use Rattle.statements.proofs.KeepsShown.{Needs, idle-needs, tick-needs, tick-needs-idle}
 
 -- a call that leaves count and states as they were, and the table well-made
 record Keeps (t u : Table) : Type 0 where
@@ -60,7 +60,7 @@ changed p q t e w = record { count = refl; well = w; states = part-kept (λ (x :
 control-keeps : (t : Table) (p w : ℕ) → Keeps t (writeControl t p w .table)
 unfolding writeControl refuse done withControl
 control-keeps t p w =
-    ladder-holds (λ (r : Told). Keeps t (r .table)) (λ k. refuse k t) _ (controlRefusals t p w) (λ k. same t)
+    ladder-holds (λ (r : Replied). Keeps t (r .table)) (λ k. refuse k t) _ (controlRefusals t p w) (λ k. same t)
     (λ c. changed p (withControl w (portAt t p)) t refl (λ v. controlled-well p w t v (leb-false (t .count) p (c .1 .0)) (c .1 .1 .0)))
 
 status-keeps : (t : Table) (p : ℕ) → Keeps t (readStatus t p .table)
@@ -72,7 +72,7 @@ status-keeps t p =
 request-keeps : (t : Table) (p v : ℕ) → Keeps t (request t p v .table)
 unfolding request refuse done demanding levelOf
 request-keeps t p v =
-    ladder-holds (λ (r : Told). Keeps t (r .table)) (λ k. refuse k t) _ (requestRefusals t p v) (λ k. same t)
+    ladder-holds (λ (r : Replied). Keeps t (r .table)) (λ k. refuse k t) _ (requestRefusals t p v) (λ k. same t)
     (λ c. changed p (demanding (levelOf v) (portAt t p)) t refl (λ w. demanding-well (levelOf v) p t w (leb-false (t .count) p (c .1 .0)) (budget-is-demand _)))
 
 -- an accepted tick: its table is the tick's, its figure is in range, and it came from a well-made table

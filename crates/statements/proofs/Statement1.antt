@@ -8,7 +8,7 @@ use mathlib.Core.Logic.{⊎-elim}
 use native.Mathlib.Omega.{arith}
 use Rattle.lists.proofs.Ladder.{ladder-holds, ladder-part}
 use Rattle.replies.specs.Calls.{coldTable, coldRefusals, coldStart, controlRefusals, writeControl, statusRefusals, statusAt, readStatus, requestRefusals, request}
-use Rattle.table.specs.Form.{done, refuse, tells, refuseStatus, refuseTick}
+use Rattle.table.specs.Parts.{done, refuse, tells, refuseStatus, refuseTick}
 use Rattle.boards.specs.Masks.{answered}
 use Rattle.passes.specs.Tick.{tickRefusals, tick}
 use Rattle.table.specs.declared.form.Closed.{Closed}
@@ -16,12 +16,12 @@ use Rattle.table.specs.declared.form.Closed.the-variants.{Ports, Refused as NoT
 use Rattle.table.specs.declared.form.StatusRead.{StatusRead}
 use Rattle.table.specs.declared.form.Table.{Table}
 use Rattle.table.specs.declared.form.Ticked.{Ticked}
-use Rattle.table.specs.declared.form.Told.{Told}
+use Rattle.table.specs.declared.form.Replied.{Replied}
 use Rattle.reader.specs.Read.{readRefusals, readOf}
 use Rattle.search.specs.Search.{searchRefusals, searchOf}
 use Rattle.writer.specs.Write.{writeRefusals, writtenOf, left, roomAfter}
 use Rattle.fields.specs.declared.Fields.{Fields}
-use Rattle.reader.specs.declared.Taken.the-variants.{Refused as NotRead}
+use Rattle.reader.specs.declared.ReadAnswer.the-variants.{Refused as NotRead}
 use Rattle.search.specs.declared.Searched.the-variants.{Refused as NotFound}
 use Rattle.writer.specs.declared.Written.{Written}
 use Rattle.writer.specs.declared.Written.the-variants.{Is as Wrote, Refused as NotWritten}
@@ -30,7 +30,7 @@ use Rattle.statements.proofs.Reached.{Stopped, Ran, tick-told}
 use Rattle.statements.specs.Statement1.{Outcome, number, value, firstOf, told, statusTold, tickTold, searchTold, readTold, writeTold, First}
 
 -- ---- the proofs
-abbrev toldOf : Told → Outcome
+abbrev toldOf : Replied → Outcome
 toldOf r = told (r .answer)
 
 abbrev statusOf : StatusRead → Outcome
@@ -76,7 +76,7 @@ never : (k : ℕ) → value ≡ number k → ⊥
 never k e = let z : _≡_ {A = ℕ} 0 1 = cc in omega arith
 
 module _ (t : Table) where
-  Kept : Told → Type 0
+  Kept : Replied → Type 0
   Kept r = (k : ℕ) → told (r .answer) ≡ number k → r .table ≡ t
 
   kept-done : (u : Table) → Kept (done u)

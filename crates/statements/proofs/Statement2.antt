@@ -12,7 +12,7 @@ use Rattle.power.specs.Power.{tenths, forced}
 use Rattle.sample.specs.Sample.{sampleAt}
 use Rattle.port.specs.States.{inTest}
 use Rattle.port.specs.Entry.{enter}
-use Rattle.port.specs.Form.{latching, latchDenied}
+use Rattle.port.specs.Changes.{latching, latchDenied}
 use Rattle.settling.specs.Settle.{rank, granted, shed, settled}
 use Rattle.port.specs.declared.form.Moved.{Moved}
 use Rattle.port.specs.declared.form.State.the-variants.{Idle, TestError}
@@ -22,9 +22,9 @@ use Rattle.share.specs.Walk.{walked, isIn}
 use Rattle.share.proofs.WalkLaws.{walk-keeps}
 use Rattle.outcomes.proofs.Latched.{latches-told}
 use Rattle.block.specs.Digest.{digest}
-use Rattle.table.specs.Form.{portAt}
+use Rattle.table.specs.Parts.{portAt}
 use Rattle.boards.proofs.MaskLaws.{bits-a, bits-b, past-a, past-b, closed-number}
-use Rattle.statements.proofs.Kept.{tick-well}
+use Rattle.statements.proofs.StaysWellMade.{tick-well}
 use Rattle.table.proofs.Laws.{well-count}
 use Rattle.boards.proofs.Laws.{Tells, count-after, supply-after, rank-here, rank-past, claim-here, port-here, port-past, latches-after}
 use Rattle.boards.specs.Sharing.{rankAt, claimAt, keptAt, settledAt, tableAfter}
@@ -34,8 +34,8 @@ use Rattle.table.specs.WellMade.{wellMade}
 use Rattle.table.specs.declared.form.Closed.the-variants.{Ports}
 use Rattle.table.specs.declared.form.Table.{Table}
 use Rattle.table.specs.declared.form.Ticked.{Ticked}
-use Rattle.tlv.proofs.Again.{read-rewrites}
-use Rattle.tlv.proofs.Back.{written-reads}
+use Rattle.tlv.proofs.ReadRewrites.{read-rewrites}
+use Rattle.tlv.proofs.WrittenReads.{written-reads}
 use Rattle.tlv.proofs.Boundary.{found-power, taken-power}
 use Rattle.statements.specs.History.{accepted}
 use Rattle.statements.proofs.Reached.{Stopped, Ran, tick-told, in-range}

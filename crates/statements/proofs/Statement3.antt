@@ -14,7 +14,7 @@ use Rattle.port.specs.States.{closed, inTest}
 use Rattle.port.specs.declared.form.State.{State}
 use Rattle.port.specs.declared.form.State.the-variants.{Disabled, Idle, Detecting, Backoff, Classifying, PowerUp, PowerOn, ErrorDelay, TestMode, TestError}
 use Rattle.table.specs.Drawn.{closedSum, closedAt}
-use Rattle.table.specs.Form.{portAt}
+use Rattle.table.specs.Parts.{portAt}
 use Rattle.table.proofs.Laws.{well-count}
 use Rattle.boards.specs.Sharing.{tableAfter}
 use Rattle.passes.specs.Tick.{movedAt, tick}
@@ -22,9 +22,9 @@ use Rattle.table.specs.declared.form.Table.{Table}
 use Rattle.statements.specs.History.{Call, ticked, after, reached, accepted, Shown, nothing, signature, both, shown}
 use Rattle.statements.proofs.Reached.{Stopped, Ran, tick-told, reached-well, reached-needs}
 use Rattle.boards.proofs.Laws.{more-closes, closed-fits}
-use Rattle.statements.proofs.Kept.{opens}
-use Rattle.statements.proofs.Shows.{Needs}
-use Rattle.statements.specs.Statement3.{Third}
+use Rattle.statements.proofs.StaysWellMade.{opens}
+use Rattle.statements.proofs.KeepsShown.{Needs}
+use Rattle.statements.specs.Statement3.{ThirdStatement}
 
 -- a closed state that is not TEST_MODE needs both
 needs-both : (st : State) (x : Shown) → closed st ≡ true → inTest st ≡ false → Needs st x → x ≡ both
@@ -60,9 +60,7 @@ ran t block figure e =
     (λ (x : Ran t block figure (tick t block figure)). x .table)
     (tick-told t block figure)
 
-pub statement-3 : (n : ℕ) → 1 ≤ n → n ≤ mostPorts → (h : List Call) (block : List ℕ) (less more : ℕ) → less ≤ more
-    → accepted (tick (reached n h) block less .answer) ≡ true → accepted (tick (reached n h) block more .answer) ≡ true
-    → Third n h block less more
+pub statement-3 : ThirdStatement
 unfolding reached after
 statement-3 n a b h block less more le e f =
     let t = reached n h in

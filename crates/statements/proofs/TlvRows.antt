@@ -8,11 +8,11 @@ use Rattle.fields.specs.Fields.{outside, badValues}
 use Rattle.header.specs.Header.{wordAt, typeAt, lengthAt, sizeAt, standsAt, fixedAt, isPower}
 use Rattle.reader.specs.Read.{cut, exactlyOne, addedIn, formIn, fieldsIn, readOf}
 use Rattle.writer.specs.Write.{badCodes, bytesOf, writtenOf, roomAfter}
-use Rattle.reader.specs.declared.Taken.{Taken}
+use Rattle.reader.specs.declared.ReadAnswer.{ReadAnswer}
 use Rattle.writer.specs.declared.Written.{Written}
 use Rattle.statements.specs.TlvRows.{reading-rows, Question, answer, writing-rows}
 
-pub reading-rows-hold : map (λ (r : List ℕ × Taken). readOf (r .0)) reading-rows ≡ map (λ (r : List ℕ × Taken). r .1) reading-rows
+pub reading-rows-hold : map (λ (r : List ℕ × ReadAnswer). readOf (r .0)) reading-rows ≡ map (λ (r : List ℕ × ReadAnswer). r .1) reading-rows
 unfolding reading-rows readOf cut exactlyOne fieldsIn formIn addedIn badValues outside isPower fixedAt standsAt typeAt lengthAt sizeAt wordAt field
 reading-rows-hold = refl
 

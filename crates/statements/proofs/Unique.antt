@@ -30,7 +30,7 @@ use Rattle.settling.specs.Claim.{rankIn, settledAs}
 use Rattle.quick.specs.Sweep.{sweptLeft, sweptCells, sweptLane}
 use Rattle.port.specs.States.{closed, codeOf}
 use Rattle.port.specs.Entry.{up, during, enter}
-use Rattle.port.specs.Form.{quietly, latching, asking}
+use Rattle.port.specs.Changes.{quietly, latching, asking}
 use Rattle.diagram.specs.Step.{step}
 use Rattle.port.specs.declared.form.Moved.{Moved}
 use Rattle.port.specs.declared.form.Port.{Port}
@@ -61,7 +61,7 @@ use Rattle.walk.specs.Walk.{stepOf}
 use Rattle.writer.specs.Write.{writtenOf, roomAfter}
 use Rattle.numbers.specs.Numbers.{noFields, formGiven}
 use Rattle.fields.specs.declared.Form.{Form}
-use Rattle.reader.specs.declared.Taken.{Taken}
+use Rattle.reader.specs.declared.ReadAnswer.{ReadAnswer}
 use Rattle.search.specs.declared.Searched.{Searched}
 use Rattle.walk.specs.declared.Step.{Step}
 use Rattle.writer.specs.declared.Written.{Written}
@@ -141,7 +141,7 @@ unique =
       header-length-at = λ bytes at r s p q. p .0 ∙ sym (q .0);
       header-is-power = λ bytes at. one Bool (isPower bytes at);
       fields-bad-values = λ f. one Bool (badValues f);
-      reader-read = λ bytes. one Taken (readOf bytes);
+      reader-read = λ bytes. one ReadAnswer (readOf bytes);
       search-search = λ pdu. one Searched (searchOf pdu);
       search-part = λ pdu start size. one (List ℕ) (take size (drop start pdu));
       walk-new = λ pdu at. walker pdu at;

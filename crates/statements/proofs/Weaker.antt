@@ -8,7 +8,7 @@ use native.Mathlib.Omega.{arith}
 use Rattle.lists.specs.Bits.{bit, above, field}
 use Rattle.lists.specs.Every.{someBelow}
 use Rattle.lists.specs.Places.{tabulate}
-use Rattle.lists.specs.Table.{some}
+use Rattle.lists.specs.Entries.{some}
 use Rattle.lists.specs.Total.{total}
 use Rattle.power.specs.Power.{over}
 use Rattle.class.specs.Class.{classOf, isFour, classOfTwo, budgetOf, isDemand}
@@ -24,7 +24,7 @@ use Rattle.share.specs.Share.{claims, before, met, sumWhere, down, keeps}
 use Rattle.replies.specs.Calls.{coldTable, coldStart, sameAlternative, writeControl, withControl}
 use Rattle.table.specs.Drawn.{draws, closedSum, closedAt}
 use Rattle.block.specs.Digest.{digest}
-use Rattle.table.specs.Form.{portAt, withPort, done}
+use Rattle.table.specs.Parts.{portAt, withPort, done}
 use Rattle.boards.specs.Sharing.{rankAt, claimAt, keptAt, settledAt, portAfter, tableAfter}
 use Rattle.boards.specs.Masks.{answered}
 use Rattle.passes.specs.Tick.{movedAt, tick, flagsReserved}

@@ -9,7 +9,7 @@ use lib.Count.{ones}
 use lib.Dec.{ltb}
 use Rattle.lists.specs.Bits.{bit, above, field}
 use Rattle.lists.specs.Every.{someBelow}
-use Rattle.lists.specs.Table.{some}
+use Rattle.lists.specs.Entries.{some}
 use Rattle.lists.specs.Total.{total}
 use Rattle.power.specs.Power.{over}
 use Rattle.class.specs.Class.{classOf, isFour, classOfTwo, budgetOf, isDemand}
@@ -23,7 +23,7 @@ use Rattle.diagram.specs.Step.{byState, step}
 use Rattle.port.specs.declared.form.Port.{Port}
 use Rattle.share.specs.Share.{claims, before, met, sumWhere, down, keeps}
 use Rattle.block.specs.Digest.{digest}
-use Rattle.table.specs.Form.{portAt}
+use Rattle.table.specs.Parts.{portAt}
 use Rattle.boards.proofs.MaskLaws.{closed-number}
 use Rattle.boards.specs.Sharing.{rankAt, claimAt, keptAt}
 use Rattle.boards.specs.Masks.{namesA}

@@ -13,7 +13,7 @@ use Rattle.power.specs.Power.{tenths}
 use Rattle.power.specs.declared.Power.{Power}
 use Rattle.status.specs.Status.{join}
 use Rattle.port.specs.Entry.{enter}
-use Rattle.port.specs.Form.{withDemand, quietly, asking}
+use Rattle.port.specs.Changes.{withDemand, quietly, asking}
 use Rattle.port.specs.States.{closed}
 use Rattle.port.specs.declared.form.Moved.{Moved}
 use Rattle.port.specs.declared.form.Port.{Port}
@@ -21,7 +21,7 @@ use Rattle.port.specs.declared.form.State.the-variants.{Idle}
 use Rattle.boards.specs.Masks.{maskA, maskB}
 use Rattle.boards.specs.Sharing.{latchedAt, tableAfter}
 use Rattle.table.specs.Drawn.{closedAt, closedSum}
-use Rattle.table.specs.Form.{portAt}
+use Rattle.table.specs.Parts.{portAt}
 use Rattle.table.specs.WellMade.{wellMade}
 use Rattle.table.specs.declared.form.Table.{Table}
 

@@ -20,8 +20,8 @@ use Rattle.reader.specs.Read.{readRefusals, readOf}
 use Rattle.search.specs.Search.{searchRefusals, searchOf}
 use Rattle.writer.specs.Write.{writeRefusals, writtenOf, roomAfter}
 use Rattle.fields.specs.declared.Fields.{Fields}
-use Rattle.reader.specs.declared.Taken.{Taken}
-use Rattle.reader.specs.declared.Taken.the-variants.{Is as Read, Refused as NotRead}
+use Rattle.reader.specs.declared.ReadAnswer.{ReadAnswer}
+use Rattle.reader.specs.declared.ReadAnswer.the-variants.{Is as Read, Refused as NotRead}
 use Rattle.search.specs.declared.Searched.{Searched}
 use Rattle.search.specs.declared.Searched.the-variants.{Is as Found, Refused as NotFound}
 use Rattle.writer.specs.declared.Written.{Written}
@@ -52,7 +52,7 @@ abbrev pub searchTold : Searched → Outcome
 searchTold (Found at size) = value
 searchTold (NotFound k) = number k
 
-abbrev pub readTold : Taken → Outcome
+abbrev pub readTold : ReadAnswer → Outcome
 readTold (Read f) = value
 readTold (NotRead k) = number k
 

@@ -14,7 +14,7 @@ use Rattle.sample.specs.Sample.{sampleAt}
 use Rattle.control.specs.Control.{pairOf}
 use Rattle.port.specs.States.{closed, inTest}
 use Rattle.port.specs.Entry.{enter}
-use Rattle.port.specs.Form.{latching, latchDenied}
+use Rattle.port.specs.Changes.{latching, latchDenied}
 use Rattle.settling.specs.Settle.{rank, granted, settled}
 use Rattle.diagram.specs.Step.{step}
 use Rattle.port.specs.declared.form.Moved.{Moved}
@@ -23,7 +23,7 @@ use Rattle.share.specs.Share.{claims, before, keeps, keptSum}
 use Rattle.share.specs.Walk.{walked, isIn}
 use Rattle.status.specs.Status.{join}
 use Rattle.block.specs.Digest.{digest}
-use Rattle.table.specs.Form.{portAt}
+use Rattle.table.specs.Parts.{portAt}
 use Rattle.boards.specs.Sharing.{rankAt, claimAt, keptAt, latchedAt}
 use Rattle.boards.specs.Masks.{namesA, namesB, maskA, maskB}
 use Rattle.table.specs.Drawn.{closedAt}

@@ -7,8 +7,8 @@ use lib.ListN.{replicate}
 use Rattle.writer.specs.Write.{writtenOf, roomAfter}
 use Rattle.fields.specs.declared.Fields.{Fields}
 use Rattle.fields.specs.declared.Form.the-variants.{Short, Long}
-use Rattle.reader.specs.declared.Taken.{Taken}
-use Rattle.reader.specs.declared.Taken.the-variants.{Is, Refused}
+use Rattle.reader.specs.declared.ReadAnswer.{ReadAnswer}
+use Rattle.reader.specs.declared.ReadAnswer.the-variants.{Is, Refused}
 use Rattle.writer.specs.declared.Written.{Written}
 use Rattle.writer.specs.declared.Written.the-variants.{Is as Wrote, Refused as NotWritten}
 
@@ -32,7 +32,7 @@ fields kind source priority requested allocated =
       form = Long (record { kind = kind; source = source; priority = priority; requested = requested; allocated = allocated });
     }
 
-unfoldable pub reading-rows : List (List ℕ × Taken)
+unfoldable pub reading-rows : List (List ℕ × ReadAnswer)
 reading-rows =
     (short [], Is short-fields)
     -- "7:6 type, 5:4 source, 3:2 .. ignored when read, 1:0 priority"

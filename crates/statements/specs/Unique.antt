@@ -34,7 +34,7 @@ use Rattle.settling.specs.Claim.{rankIn, settledAs}
 use Rattle.quick.specs.Sweep.{sweptLeft, sweptCells, sweptLane}
 use Rattle.port.specs.States.{closed, codeOf}
 use Rattle.port.specs.Entry.{up, during, enter}
-use Rattle.port.specs.Form.{quietly, latching, asking}
+use Rattle.port.specs.Changes.{quietly, latching, asking}
 use Rattle.diagram.specs.Step.{step}
 use Rattle.port.specs.declared.form.Moved.{Moved}
 use Rattle.port.specs.declared.form.Port.{Port}
@@ -66,7 +66,7 @@ use Rattle.writer.specs.Write.{writtenOf, roomAfter}
 use Rattle.numbers.specs.Numbers.{noFields, formGiven}
 use Rattle.fields.specs.declared.Fields.{Fields}
 use Rattle.fields.specs.declared.Form.{Form}
-use Rattle.reader.specs.declared.Taken.{Taken}
+use Rattle.reader.specs.declared.ReadAnswer.{ReadAnswer}
 use Rattle.search.specs.declared.Searched.{Searched}
 use Rattle.walk.specs.declared.Step.{Step}
 use Rattle.writer.specs.declared.Written.{Written}
@@ -148,7 +148,7 @@ pub record Unique : Type 0 where
   pub header-length-at : (bytes : List ℕ) (at : ℕ) → One ℕ (λ r. (r ≡ lengthAt bytes at) × (r < 2 ^ 9))
   pub header-is-power : (bytes : List ℕ) (at : ℕ) → One Bool (λ r. r ≡ isPower bytes at)
   pub fields-bad-values : (f : Form) → One Bool (λ r. r ≡ badValues f)
-  pub reader-read : (bytes : List ℕ) → One Taken (λ r. r ≡ readOf bytes)
+  pub reader-read : (bytes : List ℕ) → One ReadAnswer (λ r. r ≡ readOf bytes)
   pub search-search : (pdu : List ℕ) → One Searched (λ r. r ≡ searchOf pdu)
   -- of the part that is handed back, its bytes
   pub search-part : (pdu : List ℕ) (start size : ℕ) → One (List ℕ) (λ r. r ≡ take size (drop start pdu))

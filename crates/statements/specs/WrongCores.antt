@@ -15,7 +15,7 @@ use Rattle.settling.specs.Settle.{settled}
 use Rattle.port.specs.declared.form.Port.{Port}
 use Rattle.port.specs.declared.form.State.the-variants.{Classifying}
 use Rattle.replies.specs.Calls.{coldPort}
-use Rattle.table.specs.Form.{portAt, zeroCounts}
+use Rattle.table.specs.Parts.{portAt, zeroCounts}
 use Rattle.boards.specs.Sharing.{rankAt, keptAt}
 use Rattle.boards.specs.Masks.{namesA}
 use Rattle.passes.specs.Tick.{movedAt}

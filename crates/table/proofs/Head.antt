@@ -6,14 +6,14 @@ use lib.Dec.{leb}
 use Rattle.sizes.specs.Sizes.{mostCount, mostPorts, mostSupply}
 use Rattle.lists.specs.Every.{every}
 use Rattle.lists.proofs.Every.{nowhere}
-use Rattle.lists.specs.Table.{some}
+use Rattle.lists.specs.Entries.{some}
 use Rattle.lists.proofs.Tests.{not-or, not-ltb, not-zero}
 use Rattle.power.specs.Power.{atMost, over, highestSupply}
 use Rattle.class.specs.Class.{isDemand}
 use Rattle.control.specs.Control.{refused}
 use Rattle.port.specs.declared.form.Port.{Port}
 use Rattle.table.specs.declared.form.Table.{Table}
-use Rattle.table.specs.Form.{portAt}
+use Rattle.table.specs.Parts.{portAt}
 use Rattle.table.specs.WellMade.{illPort, illMade, wellPort, wellMade}
 use Rattle.table.specs.Head.{wellCounts, wellHead}
 

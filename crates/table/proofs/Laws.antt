@@ -11,7 +11,7 @@ use Rattle.lists.proofs.Tests.{and-left, and-right, not-leb}
 use Rattle.power.specs.Power.{atMost, over}
 use Rattle.power.specs.declared.Power.{Power}
 use Rattle.table.specs.declared.form.Table.{Table}
-use Rattle.table.specs.Form.{portAt}
+use Rattle.table.specs.Parts.{portAt}
 use Rattle.table.specs.Head.{wellHead}
 use Rattle.table.proofs.Head.{well-made-is, well-parts}
 use Rattle.table.specs.WellMade.{illMade, wellPort, wellMade}

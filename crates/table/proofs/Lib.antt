@@ -1,3 +1,3 @@
 pub mod Head
 pub mod Laws
-pub mod Well
+pub mod WellMadePorts

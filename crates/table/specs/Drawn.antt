@@ -6,7 +6,7 @@ use Rattle.lists.specs.Total.{total}
 use Rattle.port.specs.States.{closed}
 use Rattle.port.specs.declared.form.Port.{Port}
 use Rattle.table.specs.declared.form.Table.{Table}
-use Rattle.table.specs.Form.{portAt}
+use Rattle.table.specs.Parts.{portAt}
 
 -- a place that carries 48 volts; places at or past the port count "count as open"
 unfoldable pub closedAt : Table → ℕ → Bool

@@ -1,4 +1,4 @@
 pub mod Drawn
-pub mod Form
+pub mod Parts
 pub mod Head
 pub mod WellMade

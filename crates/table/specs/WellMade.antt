@@ -5,7 +5,7 @@ use mathlib.Core.List.{List, [], _∷_}
 use lib.Dec.{eqb, ltb}
 use Rattle.sizes.specs.Sizes.{mostCount, mostPorts}
 use Rattle.lists.specs.Every.{someBelow}
-use Rattle.lists.specs.Table.{some}
+use Rattle.lists.specs.Entries.{some}
 use Rattle.lists.specs.Tests.{oneHolds}
 use Rattle.power.specs.Power.{over, highestSupply}
 use Rattle.class.specs.Class.{isDemand}
@@ -13,7 +13,7 @@ use Rattle.control.specs.Control.{refused}
 use Rattle.port.specs.declared.form.Counts.{Counts}
 use Rattle.port.specs.declared.form.Port.{Port}
 use Rattle.table.specs.declared.form.Table.{Table}
-use Rattle.table.specs.Form.{portAt}
+use Rattle.table.specs.Parts.{portAt}
 
 abbrev pub counters : Counts → List ℕ
 counters c =

@@ -16,7 +16,7 @@ pub enum Answer {
     Refused(u8),
 }
 
-pub struct Told {
+pub struct Replied {
     pub table: Table,
     pub answer: Answer,
 }

@@ -14,7 +14,7 @@ use borrow.Author.Tests.{lt-ltb, le-leb, eqb-true, ltb-true, ltb-false}
 use Rattle.lists.proofs.Every.{every-of}
 use Rattle.lists.specs.Places.{tabulate}
 use Rattle.lists.proofs.Places.{tabulate-at, tabulated, side}
-use Rattle.lists.specs.Table.{all}
+use Rattle.lists.specs.Entries.{all}
 use Rattle.parts.specs.Decimal.{isDigit, value, isNumber, numberIn, spelt, decimal, most}
 use Rattle.parts.specs.Hex.{nibbleOf, isHex, pairOf, glyphOf, hexOf, bytesIn, bytesOf, roomAfter}
 use Rattle.parts.proofs.Hex.{took, pairs}

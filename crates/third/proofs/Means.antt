@@ -14,11 +14,11 @@ use Rattle.lists.specs.Total.{total}
 use Rattle.lists.proofs.Total.{total-cong, total-less}
 use Rattle.port.specs.States.{closed, isIdle, inTest}
 use Rattle.table.specs.Drawn.{closedAt, draws, closedSum}
-use Rattle.table.specs.Form.{portAt}
+use Rattle.table.specs.Parts.{portAt}
 use Rattle.table.specs.declared.form.Table.{Table}
 use Rattle.interface.specs.Laws.{Are}
 use Rattle.statements.specs.History.{Shown, nothing, signature, both}
-use Rattle.history.specs.MarkLaws.{markOf}
+use Rattle.history.specs.MarkOf.{markOf}
 use Rattle.history.proofs.States.{test-cell, demand-cell}
 use Rattle.history.specs.declared.TickAnswer.{TickAnswer}
 use Rattle.third.specs.Answers.{closedIn, noneLostIn, demandsIn, allShownIn, soundIn}

@@ -7,7 +7,7 @@ use mathlib.Core.Path.{_≡_}
 use mathlib.Core.Bool.{true, false}
 use Rattle.port.specs.States.{inTest}
 use Rattle.table.specs.Drawn.{closedAt, closedSum}
-use Rattle.table.specs.Form.{portAt}
+use Rattle.table.specs.Parts.{portAt}
 use Rattle.table.specs.declared.form.Table.{Table}
 use Rattle.statements.specs.History.{Shown, both}
 

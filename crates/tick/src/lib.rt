@@ -20,7 +20,7 @@ ghost use Prim.Native.Nat.{_*_, _≤_};
 ghost use lib.ListN.{length};
 ghost use Rattle.sizes.specs.Sizes.{mostPorts};
 ghost use Rattle.cells.specs.Cells.{countCell, cellsLong};
-ghost use Rattle.cells.specs.Laws.{Holds};
+ghost use Rattle.cells.specs.Holds.{Holds};
 ghost use Rattle.cells.specs.Lent.{cellsTicked};
 ghost use Rattle.well.specs.Judged.{wellCells};
 ghost use Rattle.passes.specs.OnCells.{tickOn};

@@ -15,7 +15,7 @@ ghost use Rattle.sizes.specs.Sizes.{mostPorts};
 ghost use Rattle.settling.specs.Claim.{settlingChanges, settledAs};
 ghost use Rattle.share.specs.Share.{noClaim};
 ghost use Rattle.cells.specs.Cells.{portOf, written, cellsLong};
-ghost use Rattle.cells.specs.Laws.{Holds};
+ghost use Rattle.cells.specs.Holds.{Holds};
 ghost use Rattle.cells.specs.Writes.{withPortCells};
 ghost use Rattle.claims.specs.Claimed.{isSet};
 ghost use Rattle.passes.specs.Passes.{Classes, settledBy, admittedBy, sharedBy};

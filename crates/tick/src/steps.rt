@@ -16,7 +16,7 @@ ghost use Rattle.lists.specs.Bits.{one};
 ghost use Rattle.lists.specs.Every.{someBelow};
 ghost use Rattle.sample.specs.Sample.{sampleAt};
 ghost use Rattle.cells.specs.Cells.{written, cellsLong};
-ghost use Rattle.cells.specs.Laws.{Holds};
+ghost use Rattle.cells.specs.Holds.{Holds};
 ghost use Rattle.cells.specs.Writes.{withPortCells};
 ghost use Rattle.claims.specs.Claimed.{isSet};
 ghost use Rattle.passes.specs.Passes.{Classes, wholeMove, markedMove, steppedPort, steppedLane};

@@ -20,9 +20,9 @@ use Rattle.walk.proofs.Walked as Walked
 use Rattle.walk.specs.declared.Step.{Step}
 use Rattle.walk.specs.declared.Step.the-variants.{End, Cut, Tlv}
 use Rattle.search.specs.declared.Searched.the-variants.{Is, Refused}
-use Rattle.tlv.proofs.Again.{taken}
+use Rattle.tlv.proofs.ReadRewrites.{taken}
 use Rattle.header.proofs.Fixed.{spelt}
-use Rattle.reader.proofs.One.{whole, power}
+use Rattle.reader.proofs.ExactlyOne.{whole, power}
 
 -- each place has one, of the size that its header says
 abbrev Every : List ℕ → List ℕ → Type 0

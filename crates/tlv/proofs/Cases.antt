@@ -10,7 +10,7 @@ use Rattle.reader.specs.Read.{cut, exactlyOne, addedIn, formIn, fieldsIn, readO
 use Rattle.search.specs.Search.{isCut, powers, searchOf}
 use Rattle.walk.specs.Walk.{stepOf, walk, walkFrom}
 use Rattle.writer.specs.Write.{bytesOf}
-use Rattle.reader.specs.declared.Taken.the-variants.{Is, Refused as No}
+use Rattle.reader.specs.declared.ReadAnswer.the-variants.{Is, Refused as No}
 use Rattle.search.specs.declared.Searched.the-variants.{Is as Found, Refused}
 use Rattle.tlv.specs.Cases.{wholeBytes, wholeFields}
 

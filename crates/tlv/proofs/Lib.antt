@@ -1,4 +1,4 @@
-pub mod Again
-pub mod Back
+pub mod ReadRewrites
+pub mod WrittenReads
 pub mod Boundary
 pub mod Cases

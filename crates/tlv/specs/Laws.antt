@@ -6,21 +6,21 @@ use Prim.Native.Nat.{ℕ, _+_, _≤_}
 use lib.Dec.{ltb}
 use lib.ListN.{length, getD, take, drop}
 use Rattle.lists.specs.Bits.{field}
-use Rattle.lists.specs.Table.{all}
+use Rattle.lists.specs.Entries.{all}
 use Rattle.header.specs.Header.{sizeAt, isPower}
 use Rattle.reader.specs.Read.{readOf}
 use Rattle.search.specs.Search.{searchOf}
 use Rattle.walk.specs.Walk.{stepOf}
 use Rattle.writer.specs.Write.{writtenOf, roomAfter}
 use Rattle.fields.specs.declared.Fields.{Fields}
-use Rattle.reader.specs.declared.Taken.the-variants.{Is as Taken}
+use Rattle.reader.specs.declared.ReadAnswer.the-variants.{Is as ReadAnswer}
 use Rattle.walk.specs.declared.Step.the-variants.{Tlv}
 use Rattle.search.specs.declared.Searched.the-variants.{Is as Found}
 use Rattle.writer.specs.declared.Written.the-variants.{Is as Wrote}
 
 -- "Whatever is written reads back as written"
 abbrev pub WrittenReads : Type 0
-WrittenReads = (f : Fields) (room : List ℕ) (n : ℕ) → writtenOf f room ≡ Wrote n → readOf (take n (roomAfter f room)) ≡ Taken f
+WrittenReads = (f : Fields) (room : List ℕ) (n : ℕ) → writtenOf f room ≡ Wrote n → readOf (take n (roomAfter f room)) ≡ ReadAnswer f
 
 abbrev pub isByte : ℕ → Bool
 isByte x = ltb x 256
@@ -28,7 +28,7 @@ isByte x = ltb x 256
 -- "bytes that read, with 3:2 zero, are rewritten the same": in any room that is long enough, whose other bytes stay
 abbrev pub ReadRewrites : Type 0
 ReadRewrites =
-    (bytes : List ℕ) → all isByte bytes ≡ true → (f : Fields) → readOf bytes ≡ Taken f → field 2 2 (getD bytes 9 0) ≡ 0
+    (bytes : List ℕ) → all isByte bytes ≡ true → (f : Fields) → readOf bytes ≡ ReadAnswer f → field 2 2 (getD bytes 9 0) ≡ 0
     → (room : List ℕ) → length bytes ≤ length room → (Wrote (length bytes) ≡ writtenOf f room) × (bytes ++ drop (length bytes) room ≡ roomAfter f room)
 
 -- a boundary of the walk: the start of the bytes, or the end of a whole TLV that starts at a boundary
@@ -53,4 +53,4 @@ FoundPower = (bytes : List ℕ) (at size : ℕ) → searchOf bytes ≡ Found at 
 
 -- what the reader takes, from the search or from elsewhere
 abbrev pub TakenPower : Type 0
-TakenPower = (bytes : List ℕ) (f : Fields) → readOf bytes ≡ Taken f → OnePower bytes
+TakenPower = (bytes : List ℕ) (f : Fields) → readOf bytes ≡ ReadAnswer f → OnePower bytes

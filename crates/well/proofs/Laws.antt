@@ -18,14 +18,14 @@ use Rattle.lists.proofs.Places.{side}
 use Rattle.lists.proofs.Tests.{and-left, and-right}
 use Rattle.power.specs.Power.{tenths, atMost, highestSupply}
 use Rattle.power.specs.declared.Power.{Power}
-use Rattle.table.specs.Form.{portAt}
+use Rattle.table.specs.Parts.{portAt}
 use Rattle.table.specs.Head.{wellHead}
 use Rattle.table.proofs.Head.{well-parts}
 use Rattle.table.proofs.Laws.{ill-made, none-ill}
-use Rattle.table.proofs.Well.{Well, well-of}
+use Rattle.table.proofs.WellMadePorts.{Well, well-of}
 use Rattle.table.specs.WellMade.{illMade, wellPort, wellMade}
 use Rattle.cells.specs.Cells.{cellsLong, countCell, supplyCell, portOf, tableOf, portHolds, isTable}
-use Rattle.cells.specs.Laws.{Holds}
+use Rattle.cells.specs.Holds.{Holds}
 use Rattle.cells.proofs.Laws.{table-at}
 use Rattle.well.specs.Judged.{headCells, wellCells, portFine}
 

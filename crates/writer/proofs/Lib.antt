@@ -1,2 +1,2 @@
-pub mod Good
+pub mod InRange
 pub mod Stored

@@ -13,7 +13,7 @@ use Rattle.lists.proofs.Total.{total-next}
 use Rattle.power.specs.Power.{tenths, sumOf}
 use Rattle.port.specs.States.{closed}
 use Rattle.table.specs.Drawn.{draws, closedSum}
-use Rattle.table.specs.Form.{portAt, withPort}
+use Rattle.table.specs.Parts.{portAt, withPort}
 use Rattle.cells.specs.Cells.{countCell, tableOf}
 use Rattle.cells.specs.Codes.{stateOf}
 use Rattle.replies.specs.Calls.{granting}

@@ -4,7 +4,7 @@ use borrow.Author.Needs.{needs}
 use borrow.Author.Tests.{eq-eqb, ne-eqb, lt-ltb, le-ltb}
 use native.Mathlib.Omega.{arith}
 use denote.Ref.{now}
-use Rattle.table.specs.Form.{done, refuse}
+use Rattle.table.specs.Parts.{done, refuse}
 use Rattle.cells.specs.Cells.{tableOf}
 use Rattle.cells.proofs.LentLaws.{cold-refused, cold-done}
 use Rattle.replies.specs.Calls.{coldTable, coldStart}

@@ -13,11 +13,11 @@ use Rattle.control.specs.Control.{refused}
 use Rattle.control.proofs.Laws.{taken-small}
 use Rattle.port.specs.States.{inDisabled}
 use Rattle.port.specs.declared.form.State.{State}
-use Rattle.table.specs.Form.{portAt, withPort, done, refuse}
+use Rattle.table.specs.Parts.{portAt, withPort, done, refuse}
 use Rattle.cells.specs.Cells.{tableOf}
 use Rattle.cells.proofs.LentLaws.{told-refused, told-done}
 use Rattle.replies.specs.Calls.{sameAlternative, withControl}
-use Rattle.replies.specs.OnLaws.{controlRest}
+use Rattle.replies.specs.Rest.{controlRest}
 use Rattle.replies.proofs.OnLaws.{state-at, control-at, control-cell}
 use Rattle.calls.proofs.controlled.Statement.{statement}
 use Rattle.calls.proofs.controlled.Tie as tie

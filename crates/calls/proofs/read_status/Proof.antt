@@ -8,7 +8,7 @@ use borrow.Author.Needs.{needs}
 use borrow.Author.Tests.{not-true, not-false}
 use lib.ListN.{set}
 use denote.Ref.{now}
-use Rattle.table.specs.Form.{portAt, withPort}
+use Rattle.table.specs.Parts.{portAt, withPort}
 use Rattle.cells.specs.Cells.{tableOf}
 use Rattle.cells.proofs.LentLaws.{read-refused, read-word}
 use Rattle.well.specs.Judged.{wellCells}

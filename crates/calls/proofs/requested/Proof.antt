@@ -10,13 +10,13 @@ use Rattle.power.specs.Power.{atMost, over}
 use Rattle.power.specs.declared.Power.{Power}
 use Rattle.class.specs.Class.{budgetOf}
 use Rattle.port.specs.States.{inPowerOn}
-use Rattle.table.specs.Form.{portAt, done, refuse}
+use Rattle.table.specs.Parts.{portAt, done, refuse}
 use Rattle.table.proofs.Laws.{over-is}
 use Rattle.cells.specs.Cells.{tableOf, cellsWith}
 use Rattle.cells.proofs.CodeLaws.{power-on-code}
 use Rattle.cells.proofs.LentLaws.{told-refused, told-done}
 use Rattle.replies.specs.Calls.{levelOf, granting, overSupply}
-use Rattle.replies.specs.OnLaws.{requestRest}
+use Rattle.replies.specs.Rest.{requestRest}
 use Rattle.replies.proofs.OnLaws.{state-at, class-at, demand-cell}
 use Rattle.calls.proofs.requested.Statement.{statement}
 use Rattle.calls.proofs.requested.Tie as tie

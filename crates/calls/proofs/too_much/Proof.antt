@@ -5,7 +5,7 @@ use borrow.Author.Needs.{needs}
 use denote.Ref.{now}
 use Rattle.power.specs.Power.{tenths, atMost, over, fits}
 use Rattle.power.specs.declared.Sum.{Sum}
-use Rattle.table.specs.Form.{portAt}
+use Rattle.table.specs.Parts.{portAt}
 use Rattle.table.proofs.Laws.{over-is}
 use Rattle.cells.specs.Cells.{supplyCell, tableOf}
 use Rattle.replies.specs.Calls.{overSupply}

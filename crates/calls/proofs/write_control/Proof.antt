@@ -6,7 +6,7 @@ use native.Mathlib.Omega.{arith}
 use borrow.Author.Needs.{needs}
 use borrow.Author.Tests.{not-true, not-false}
 use denote.Ref.{now}
-use Rattle.table.specs.declared.form.Told.{Told}
+use Rattle.table.specs.declared.form.Replied.{Replied}
 use Rattle.cells.specs.Cells.{tableOf}
 use Rattle.cells.specs.Lent.{cellsTold}
 use Rattle.cells.proofs.LentLaws.{told-refused}
@@ -52,4 +52,4 @@ write-control-spec =
     let w = c .before .before .before .before .before .before .before .before .before .before .args .word in
     let e : wellCells l ≡ true = sym (c .before .before .before .before .before .before .before .well-made .ensures) ∙ not-false (c .before .before .before .before .before .before .before .well-made .result) (c .before .before .before .before .before .before .if1 .left) in
     let g = control-goes l p w e (c .before .before .before .before .if2 .left) in
-    (c .before .before .controlled .ensures .0 ∙ ap (λ (x : Told). x .answer) (sym g), c .before .before .controlled .ensures .1 ∙ ap (λ (x : Told). cellsTold x l) (sym g))))
+    (c .before .before .controlled .ensures .0 ∙ ap (λ (x : Replied). x .answer) (sym g), c .before .before .controlled .ensures .1 ∙ ap (λ (x : Replied). cellsTold x l) (sym g))))

@@ -11,7 +11,7 @@ use borrow.Author.Needs.{needs}
 use borrow.Author.Tests.{ltb-true, ne-eqb}
 use Rattle.lists.specs.Places.{tabulate}
 use Rattle.lists.proofs.Places.{side, tabulate-at}
-use Rattle.lists.specs.Table.{all, some}
+use Rattle.lists.specs.Entries.{all, some}
 use Rattle.lists.proofs.Tests.{and-left, and-right}
 use Rattle.power.specs.Power.{tenths}
 use Rattle.class.specs.Class.{isDemand}

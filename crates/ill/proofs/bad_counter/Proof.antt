@@ -1,6 +1,6 @@
 -- `bad_counter` is the test of the seven counters, one after the other. Assumes nothing.
 use mathlib.Core.Bool.{or-assoc, or-false}
-use Rattle.lists.specs.Table.{some}
+use Rattle.lists.specs.Entries.{some}
 use Rattle.cells.specs.Cells.{countsOf}
 use borrow.Author.Needs.{needs}
 use Rattle.ill.proofs.bad_counter.Statement.{statement}

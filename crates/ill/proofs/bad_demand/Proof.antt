@@ -1,6 +1,6 @@
 -- `bad_demand` is what `isDemand` is not. Assumes nothing.
 use mathlib.Core.Bool.{and-assoc, and-true}
-use Rattle.lists.specs.Table.{some}
+use Rattle.lists.specs.Entries.{some}
 use Rattle.lists.proofs.Tests.{not-or}
 use Rattle.class.specs.Class.{isDemand}
 use Rattle.ill.proofs.bad_demand.Statement.{statement}

@@ -5,7 +5,7 @@ use native.Mathlib.Omega.{arith}
 use denote.Ref.{now}
 use borrow.Author.Tests.{eq-eqb, ne-eqb}
 use Rattle.reader.specs.Read.{formIn}
-use Rattle.reader.proofs.One.{three, fourteen}
+use Rattle.reader.proofs.ExactlyOne.{three, fourteen}
 use Rattle.reader.proofs.form_in.Statement.{statement}
 use Rattle.reader.proofs.form_in.Tie as tie
 

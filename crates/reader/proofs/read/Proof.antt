@@ -9,7 +9,7 @@ use borrow.Author.Tests.{lt-ltb, le-ltb, not-true, not-false}
 use Rattle.fields.specs.Fields.{badValues}
 use Rattle.header.specs.Header.{sizeAt}
 use Rattle.reader.specs.Read.{cut, exactlyOne, formIn, fieldsIn, readOf}
-use Rattle.reader.proofs.One.{three}
+use Rattle.reader.proofs.ExactlyOne.{three}
 use Rattle.reader.proofs.read.Statement.{statement}
 use Rattle.reader.proofs.read.Tie as tie
 

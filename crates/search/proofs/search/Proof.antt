@@ -12,7 +12,7 @@ use Rattle.walk.specs.Walk.{stepOf, walkFrom}
 use Rattle.walk.proofs.Walked.{whole}
 use Rattle.search.specs.declared.Seen.the-variants.{Nothing}
 use Rattle.walk.specs.declared.Step.the-variants.{Tlv}
-use Rattle.search.proofs.Passed.{outlook, allowed, ends, breaks, goes-on}
+use Rattle.search.proofs.FromHere.{outlook, allowed, ends, breaks, goes-on}
 use Rattle.search.proofs.search.Statement.{statement}
 use Rattle.search.proofs.search.Tie as tie
 

@@ -13,7 +13,7 @@ use Rattle.lists.proofs.Places.{filled-none, filled-more, filled-all}
 use Rattle.power.specs.Power.{sumOf, zeroPower}
 use Rattle.share.specs.Share.{keeps}
 use Rattle.share.specs.Given.{rankOf, demandOf}
-use Rattle.share.specs.Passes.{Small, slotOf, within}
+use Rattle.share.specs.Slots.{Small, slotOf, within}
 use Rattle.share.proofs.Sums.{inLine, line-starts, line-more, more-here, more-at, lower-small, slot-small, turn-kept}
 use Rattle.share.proofs.in_turn.Statement.{statement}
 use Rattle.share.proofs.in_turn.Tie as tie

@@ -11,7 +11,7 @@ use Rattle.sizes.specs.Sizes.{mostPorts}
 use Rattle.lists.specs.Places.{tabulate}
 use Rattle.power.specs.Power.{sumOf, zeroPower}
 use Rattle.share.specs.Given.{rankOf, demandOf}
-use Rattle.share.specs.Passes.{Small, ofSlot}
+use Rattle.share.specs.Slots.{Small, ofSlot}
 use Rattle.share.proofs.Sums.{more-at, slot-more, slot-none, slot-small}
 use Rattle.share.proofs.rank_sums.Statement.{statement}
 use Rattle.share.proofs.rank_sums.Tie as tie

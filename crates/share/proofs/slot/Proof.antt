@@ -2,7 +2,7 @@
 -- Assumes nothing.
 use borrow.Author.Needs.{needs}
 use borrow.Author.Tests.{lt-ltb, le-ltb}
-use Rattle.share.specs.Passes.{slotOf}
+use Rattle.share.specs.Slots.{slotOf}
 use Rattle.share.proofs.slot.Statement.{statement}
 use Rattle.share.proofs.slot.Tie as tie
 

@@ -9,7 +9,7 @@ use borrow.Author.Needs.{needs}
 use Rattle.lists.specs.Places.{Filled}
 use Rattle.lists.proofs.Places.{filled-none, filled-more, filled-all}
 use Rattle.power.specs.Power.{sumOf, join}
-use Rattle.share.specs.Passes.{joined}
+use Rattle.share.specs.Slots.{joined}
 use Rattle.share.proofs.starts.Statement.{statement}
 use Rattle.share.proofs.starts.Tie as tie
 

@@ -2,7 +2,7 @@
 -- Assumes nothing.
 use borrow.Author.Needs.{needs}
 use borrow.Author.Tests.{lt-ltb, le-ltb}
-use Rattle.share.specs.Passes.{within}
+use Rattle.share.specs.Slots.{within}
 use Rattle.share.proofs.within.Statement.{statement}
 use Rattle.share.proofs.within.Tie as tie
 

@@ -8,7 +8,7 @@ use lib.Dec.{eqb}
 use borrow.Author.Needs.{needs}
 use borrow.Author.Tests.{eq-eqb, ne-eqb}
 use denote.Ref.{now}
-use Rattle.table.specs.Form.{refuseTick}
+use Rattle.table.specs.Parts.{refuseTick}
 use Rattle.table.specs.declared.form.Ticked.{Ticked}
 use Rattle.cells.specs.Cells.{tableOf}
 use Rattle.cells.specs.Lent.{cellsTicked}

@@ -1,6 +1,6 @@
 -- `demand_fine` is `isDemand`: the constants are the budgets of classes 1 to 4. Assumes nothing.
 use mathlib.Core.Bool.{or-assoc, or-false}
-use Rattle.lists.specs.Table.{some}
+use Rattle.lists.specs.Entries.{some}
 use Rattle.class.specs.Class.{isDemand}
 use Rattle.well.proofs.demand_fine.Statement.{statement}
 use Rattle.well.proofs.demand_fine.Tie as tie

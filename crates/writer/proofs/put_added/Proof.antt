@@ -3,7 +3,7 @@
 use native.Mathlib.Omega.{arith}
 use lib.ListN.{length-set}
 use borrow.Author.Needs.{needs}
-use Rattle.writer.proofs.Good.{codes, requested, allocated}
+use Rattle.writer.proofs.InRange.{codes, requested, allocated}
 use Rattle.writer.proofs.put_added.Statement.{statement}
 use Rattle.writer.proofs.put_added.Tie as tie
 

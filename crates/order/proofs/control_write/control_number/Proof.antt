@@ -9,7 +9,7 @@ use Rattle.cells.specs.Cells.{tableOf}
 use Rattle.ill.specs.Ill.{illCells}
 use Rattle.interface.specs.Statement1C.{firstNumber, controlList}
 use Rattle.replies.specs.Calls.{controlRefusals}
-use Rattle.replies.specs.OnLaws.{AtPort}
+use Rattle.replies.specs.Rest.{AtPort}
 use Rattle.replies.proofs.OnLaws.{at-port}
 use Rattle.order.proofs.Order.{ill-first, well-first, well-of, well-cells-of, alternative-at}
 use borrow.Author.Needs.{needs}

@@ -12,9 +12,9 @@ use Rattle.interface.specs.Statement1C.{firstNumber, requestList}
 use Rattle.power.specs.Power.{tenths, over}
 use Rattle.class.specs.Class.{budgets, budgetOf}
 use Rattle.table.specs.Drawn.{closedSum}
-use Rattle.table.specs.Form.{portAt}
+use Rattle.table.specs.Parts.{portAt}
 use Rattle.replies.specs.Calls.{levelOf, granting, overSupply, requestRefusals}
-use Rattle.replies.specs.OnLaws.{AtPort}
+use Rattle.replies.specs.Rest.{AtPort}
 use Rattle.replies.proofs.OnLaws.{at-port}
 use Rattle.order.proofs.Order.{ill-first, well-first, well-of, well-cells-of, power-on-at, class-over, supply-over}
 use borrow.Author.Needs.{needs}

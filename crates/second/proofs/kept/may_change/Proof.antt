@@ -1,6 +1,6 @@
 -- `may_change` is the head's figure, and otherwise the fields. Assumes nothing.
 use borrow.Author.Tests.{lt-ltb, le-ltb}
-use Rattle.second.specs.Kept.{mayChange}
+use Rattle.second.specs.Untouched.{mayChange}
 use Rattle.second.proofs.kept.may_change.Statement.{statement}
 use Rattle.second.proofs.kept.may_change.Tie as tie
 

@@ -11,7 +11,7 @@ use borrow.Author.Needs.{needs}
 use denote.Ref.{now}
 use Rattle.lists.specs.Every.{every}
 use Rattle.lists.proofs.Every.{every-next, every-of}
-use Rattle.second.specs.Kept.{mayChange, restKept}
+use Rattle.second.specs.Untouched.{mayChange, restKept}
 use Rattle.second.proofs.kept.rest_kept.Statement.{statement}
 use Rattle.second.proofs.kept.rest_kept.Tie as tie
 

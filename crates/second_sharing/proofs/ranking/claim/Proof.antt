@@ -9,8 +9,8 @@ use lib.ListN.{getD, List·getD-eq-default}
 use borrow.Author.Needs.{needs}
 use borrow.Author.Tests.{eq-eqb, ne-eqb, ltb-true}
 use denote.Ref.{now}
-use Rattle.lists.specs.Table.{all}
-use Rattle.lists.proofs.Table.{entry-or}
+use Rattle.lists.specs.Entries.{all}
+use Rattle.lists.proofs.Entries.{entry-or}
 use Rattle.class.specs.Class.{budgets}
 use Rattle.second.specs.Answers.{closedCell}
 use Rattle.second_sharing.specs.Shared.{claimCell}

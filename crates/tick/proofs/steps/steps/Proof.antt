@@ -15,7 +15,7 @@ use Rattle.lists.specs.Bits.{one}
 use Rattle.lists.specs.Every.{someBelow}
 use Rattle.lists.specs.Places.{Filled}
 use Rattle.lists.proofs.Places.{filled-none, filled-more, filled-below}
-use Rattle.port.specs.Form.{quietly}
+use Rattle.port.specs.Changes.{quietly}
 use Rattle.port.specs.declared.form.Moved.{Moved}
 use Rattle.cells.specs.Cells.{portOf, written}
 use Rattle.cells.proofs.Pass.{stage}

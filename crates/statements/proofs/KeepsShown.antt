@@ -6,7 +6,7 @@ use mathlib.Core.Path.{_≡_, refl, sym, subst}
 use mathlib.Core.Bool.{Bool, true, false, cond, _&&_, false≢true}
 use lib.Dec.{leb}
 use Rattle.lists.specs.Bits.{bit}
-use Rattle.lists.specs.Tests.{choice}
+use Rattle.lists.proofs.Tests.{choice}
 use Rattle.power.specs.Power.{forced}
 use Rattle.power.specs.declared.Power.{Power}
 use Rattle.class.specs.Class.{classOfTwo}
@@ -18,7 +18,7 @@ use Rattle.sample.specs.declared.Sample.{Sample}
 use Rattle.signature.specs.declared.Signature.{Signature}
 use Rattle.signature.specs.declared.Signature.the-variants.{Valid as SigValid, Invalid as SigInvalid, Open as SigOpen}
 use Rattle.port.specs.Entry.{enter}
-use Rattle.port.specs.Form.{quietly}
+use Rattle.port.specs.Changes.{quietly}
 use Rattle.port.specs.States.{inTest, isIdle}
 use Rattle.share.specs.Share.{noClaim}
 use Rattle.settling.specs.Settle.{granted, shed, settled}

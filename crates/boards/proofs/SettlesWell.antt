@@ -5,11 +5,11 @@ use mathlib.Core.Path.{_≡_}
 use mathlib.Core.Bool.{Bool, true, cond}
 use native.Mathlib.Omega.{arith}
 use lib.Dec.{leb}
-use Rattle.lists.specs.Tests.{choice}
+use Rattle.lists.proofs.Tests.{choice}
 use Rattle.power.specs.Power.{atMost, highestSupply}
 use Rattle.power.specs.declared.Power.{Power}
 use Rattle.port.specs.Entry.{enter}
-use Rattle.port.specs.Form.{quietly}
+use Rattle.port.specs.Changes.{quietly}
 use Rattle.port.specs.States.{inTest}
 use Rattle.port.specs.declared.form.Moved.{Moved}
 use Rattle.port.specs.declared.form.Port.{Port}
@@ -18,7 +18,7 @@ use Rattle.port.specs.declared.form.State.the-variants.{Disabled, Idle, Detecti
 use Rattle.settling.specs.Settle.{granted, shed, settled}
 use Rattle.share.specs.Share.{noClaim}
 use Rattle.table.proofs.Laws.{well-count}
-use Rattle.table.proofs.Well.{Well, with-latches-well, enter-well, table-of, table-test}
+use Rattle.table.proofs.WellMadePorts.{Well, with-latches-well, enter-well, table-of, table-test}
 use Rattle.table.specs.WellMade.{wellMade}
 use Rattle.table.specs.declared.form.Table.{Table}
 use Rattle.boards.proofs.Laws.{port-here}

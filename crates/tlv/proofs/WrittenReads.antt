@@ -18,10 +18,10 @@ use Rattle.fields.specs.declared.Fields.{Fields}
 use Rattle.fields.specs.declared.Form.{Form}
 use Rattle.fields.specs.declared.Form.the-variants.{Short, Long}
 use Rattle.fields.specs.declared.Added.{Added}
-use Rattle.reader.specs.declared.Taken.the-variants.{Is}
+use Rattle.reader.specs.declared.ReadAnswer.the-variants.{Is}
 use Rattle.writer.specs.declared.Written.{Written}
 use Rattle.writer.specs.declared.Written.the-variants.{Is as Wrote, Refused}
-use Rattle.writer.proofs.Good.{codes}
+use Rattle.writer.proofs.InRange.{codes}
 
 -- a number of two bytes
 value : (v : ℕ) → 256 * (v / 256) + v % 256 ≡ v

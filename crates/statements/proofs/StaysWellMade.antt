@@ -11,7 +11,7 @@ use lib.ListN.{getD, set, getD-replicate}
 use borrow.Author.Tests.{le-leb}
 use Rattle.sizes.specs.Sizes.{mostPorts, sampleBytes}
 use Rattle.lists.specs.Bits.{field, above}
-use Rattle.lists.specs.Table.{some}
+use Rattle.lists.specs.Entries.{some}
 use Rattle.power.specs.Power.{forced, atMost, highestSupply}
 use Rattle.power.specs.declared.Power.{Power}
 use Rattle.class.specs.Class.{isDemand}
@@ -21,15 +21,15 @@ use Rattle.port.specs.States.{closed}
 use Rattle.port.specs.declared.form.Port.{Port}
 use Rattle.outcomes.proofs.Open.{open-stays}
 use Rattle.boards.specs.Sharing.{tableAfter}
-use Rattle.boards.proofs.Well.{after-well}
+use Rattle.boards.proofs.SettlesWell.{after-well}
 use Rattle.table.specs.declared.form.Table.{Table}
 use Rattle.replies.specs.Calls.{coldPort, coldTable, withControl, unlatched, demanding}
 use Rattle.block.specs.Digest.{digest}
 use Rattle.passes.specs.Tick.{movedAt}
-use Rattle.table.specs.Form.{noPort, portAt, withPort}
-use Rattle.table.proofs.Well.{Well, well-of, WellTable, table-of, table-test}
+use Rattle.table.specs.Parts.{noPort, portAt, withPort}
+use Rattle.table.proofs.WellMadePorts.{Well, well-of, WellTable, table-of, table-test}
 use Rattle.table.specs.WellMade.{illPort, wellPort, wellMade}
-use Rattle.passes.proofs.Wells.{digest-well, step-well}
+use Rattle.passes.proofs.MovesWell.{digest-well, step-well}
 
 -- ---- the tick
 pub tick-well : (t : Table) (block : List ℕ) (supply : Power) → wellMade t ≡ true → atMost supply highestSupply ≡ true → wellMade (tableAfter t (movedAt t block) supply) ≡ true

@@ -9,8 +9,8 @@ use borrow.Author.Tests.{le-leb, leb-true, not-true}
 use Rattle.sizes.specs.Sizes.{mostCount, mostPorts}
 use Rattle.lists.specs.Every.{every}
 use Rattle.lists.proofs.Every.{every-of}
-use Rattle.lists.specs.Table.{some}
-use Rattle.lists.specs.Tests.{choice}
+use Rattle.lists.specs.Entries.{some}
+use Rattle.lists.proofs.Tests.{choice}
 use Rattle.lists.proofs.Tests.{and-left, and-right}
 use Rattle.power.specs.Power.{atMost, highestSupply}
 use Rattle.power.specs.declared.Power.{Power}
@@ -18,13 +18,13 @@ use Rattle.class.specs.Class.{isDemand}
 use Rattle.control.specs.Control.{refused}
 use Rattle.status.specs.declared.Latches.{Latches}
 use Rattle.port.specs.Entry.{up, during, countsOnEntry, demandOnEntry, enter}
-use Rattle.port.specs.Form.{withLatches, withCounts}
+use Rattle.port.specs.Changes.{withLatches, withCounts}
 use Rattle.port.specs.declared.form.Counts.{Counts}
 use Rattle.port.specs.declared.form.Port.{Port}
 use Rattle.port.specs.declared.form.State.{State}
 use Rattle.port.specs.declared.form.State.the-variants.{Disabled, Idle, Detecting, Backoff, Classifying, PowerUp, PowerOn, ErrorDelay, TestMode, TestError}
 use Rattle.table.specs.declared.form.Table.{Table}
-use Rattle.table.specs.Form.{portAt}
+use Rattle.table.specs.Parts.{portAt}
 use Rattle.table.specs.Head.{wellCounts}
 use Rattle.table.proofs.Head.{well-port-is, well-made-is}
 use Rattle.table.proofs.Laws.{well-at}

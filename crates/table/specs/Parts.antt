@@ -8,7 +8,7 @@ use Rattle.port.specs.declared.form.Port.{Port}
 use Rattle.port.specs.declared.form.State.the-variants.{Disabled}
 use Rattle.table.specs.declared.form.Table.{Table}
 use Rattle.table.specs.declared.form.Answer.the-variants.{Done, Refused}
-use Rattle.table.specs.declared.form.Told.{Told}
+use Rattle.table.specs.declared.form.Replied.{Replied}
 use Rattle.table.specs.declared.form.Status.the-variants.{Word, Refused as NoStatus}
 use Rattle.table.specs.declared.form.StatusRead.{StatusRead}
 use Rattle.table.specs.declared.form.Closed.the-variants.{Refused as NoTick}
@@ -30,10 +30,10 @@ unfoldable pub withPort : ℕ → Port → Table → Table
 withPort p port t = record { ports = set (t .ports) p port; count = t .count; supply = t .supply }
 
 -- an answer with the table as it is then; "The table comes back unchanged" with a refusal
-unfoldable pub done : Table → Told
+unfoldable pub done : Table → Replied
 done t = record { table = t; answer = Done }
 
-unfoldable pub refuse : ℕ → Table → Told
+unfoldable pub refuse : ℕ → Table → Replied
 refuse number t = record { table = t; answer = Refused number }
 
 unfoldable pub tells : ℕ → Table → StatusRead

@@ -5,8 +5,8 @@ use mathlib.Core.Path.{_≡_, refl}
 use mathlib.Core.Bool.{true, not}
 use native.Mathlib.Omega.{arith}
 use borrow.Author.Tests.{leb-true}
-use Rattle.lists.specs.Table.{some}
-use Rattle.lists.specs.Tests.{choice}
+use Rattle.lists.specs.Entries.{some}
+use Rattle.lists.proofs.Tests.{choice}
 use Rattle.power.specs.Power.{forced}
 use Rattle.class.specs.Class.{isDemand, classOfTwo}
 use Rattle.class.proofs.Laws.{budget-is-demand, atMostFour, class-of-two-at-most-four}
@@ -16,7 +16,7 @@ use Rattle.sample.specs.declared.Sample.{Sample}
 use Rattle.sample.specs.Sample.{flagsOf}
 use Rattle.status.specs.declared.Latches.{Latches}
 use Rattle.port.specs.Entry.{enter}
-use Rattle.port.specs.Form.{withClass, withLatches}
+use Rattle.port.specs.Changes.{withClass, withLatches}
 use Rattle.diagram.specs.Rules.{stressed}
 use Rattle.outcomes.proofs.Outcomes.{advanced, counted, faulted, step-outcome}
 use Rattle.diagram.specs.Step.{step}
@@ -29,7 +29,7 @@ use Rattle.port.specs.declared.form.Reading.{Reading}
 use Rattle.port.specs.declared.form.State.{State}
 use Rattle.port.specs.declared.form.State.the-variants.{Disabled, Idle, Detecting, Backoff, Classifying, PowerUp, PowerOn, ErrorDelay, TestMode, TestError}
 use Rattle.block.specs.Digest.{classingOf, digest}
-use Rattle.table.proofs.Well.{WellCounts, Well, up-small, during-small, with-counts-well, with-latches-well, enter-well}
+use Rattle.table.proofs.WellMadePorts.{WellCounts, Well, up-small, during-small, with-counts-well, with-latches-well, enter-well}
 
 -- a class that was read is a class, with a budget that a port may have
 abbrev pub WellClass : Classing → Type 0

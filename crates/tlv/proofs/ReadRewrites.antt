@@ -12,8 +12,8 @@ use lib.ListN.{length, getD, drop}
 use borrow.Author.Tests.{eqb-true, eq-eqb, ne-eqb, ltb-true, le-ltb, not-false}
 use Rattle.lists.specs.Bits.{field}
 use Rattle.lists.proofs.Ladder.{ladder-value}
-use Rattle.lists.specs.Table.{all}
-use Rattle.lists.proofs.Table.{entry-or}
+use Rattle.lists.specs.Entries.{all}
+use Rattle.lists.proofs.Entries.{entry-or}
 use Rattle.lists.proofs.Tests.{and-left, and-right}
 use Rattle.fields.specs.Fields.{badValues}
 use Rattle.header.specs.Header.{wordAt, typeAt, lengthAt, fixedAt, isPower}
@@ -22,10 +22,10 @@ use Rattle.reader.specs.Read.{exactlyOne, addedIn, formIn, fieldsIn, readRefusa
 use Rattle.writer.specs.Write.{badCodes, bytesOf}
 use Rattle.fields.specs.declared.Fields.{Fields}
 use Rattle.fields.specs.declared.Form.the-variants.{Short, Long}
-use Rattle.reader.specs.declared.Taken.the-variants.{Is, Refused}
+use Rattle.reader.specs.declared.ReadAnswer.the-variants.{Is, Refused}
 use Rattle.writer.specs.declared.Written.the-variants.{Is as Wrote}
 use Rattle.header.proofs.Fixed.{four}
-use Rattle.reader.proofs.One.{whole, power, lengths}
+use Rattle.reader.proofs.ExactlyOne.{whole, power, lengths}
 use Rattle.writer.proofs.Stored.{Answers, accept}
 
 -- what an accepted read says of its bytes

@@ -1,4 +1,4 @@
--- What is proved of specs/Table.
+-- What is proved of specs/Entries.
 -- Assumes nothing.
 use mathlib.Core.Path.{_≡_}
 use mathlib.Core.Bool.{Bool, true}
@@ -7,7 +7,7 @@ use Prim.Native.Nat.{ℕ, zero, suc, _<_}
 use native.Mathlib.Nat.{le-of-suc-le-suc, not-suc-le-zero}
 use lib.ListN.{length, getD}
 use Rattle.lists.proofs.Tests.{and-left, and-right}
-use Rattle.lists.specs.Table.{all}
+use Rattle.lists.specs.Entries.{all}
 
 -- what the test shows of the whole table holds of each entry
 pub entry : {A : Type 0} (f : A → Bool) (d : A) (xs : List A) → all f xs ≡ true → (k : ℕ) → k < length xs → f (getD xs k d) ≡ true

@@ -1,9 +1,9 @@
--- What is proved of specs/Passes.
+-- What is proved of specs/Slots.
 -- Assumes nothing.
 use Prim.Native.Nat.{ℕ}
 use lib.Dec.{ltb}
 use Rattle.share.specs.Share.{sumWhere}
-use Rattle.share.specs.Passes.{slotOf}
+use Rattle.share.specs.Slots.{slotOf}
 
 -- the demands of the slots before k
 unfoldable pub ofLower : ℕ → (ℕ → ℕ) → (ℕ → ℕ) → ℕ → ℕ
