@@ -8,6 +8,7 @@ use power::Power;
 use power::Sum;
 use sizes::CELLS;
 use sizes::PORTS_64;
+use sizes::refusals;
 use status::Condition;
 use status::status_word;
 use table::form::Answer;
@@ -61,13 +62,13 @@ pub fn cold_start(cells: &mut [u16], ports: u64) -> Answer
     ensures { λ _. ⌜ now (cells .exit) ≡ cellsCold (startOn (now (cells .entry)) ports) (now (cells .entry)) ⌝ }
 {
     if cells.len() != CELLS {
-        return Answer::Refused(13);
+        return Answer::Refused(refusals::ILL_MADE);
     }
     if ports < 1 {
-        return Answer::Refused(2);
+        return Answer::Refused(refusals::NO_SUCH_PORT);
     }
     if PORTS_64 < ports {
-        return Answer::Refused(2);
+        return Answer::Refused(refusals::NO_SUCH_PORT);
     }
     fill(cells, ports as u16);
     Answer::Done
@@ -96,11 +97,11 @@ fn controlled(cells: &mut [u16], p: usize, word: u64) -> Answer
     ensures { λ _. ⌜ now (cells .exit) ≡ cellsTold (controlRest (now (cells .entry)) p word) (now (cells .entry)) ⌝ }
 {
     if control::refused(word) {
-        return Answer::Refused(3);
+        return Answer::Refused(refusals::RESERVED);
     }
     let control = word as u16;
     if !may_write(cells[8 + p], cells[56 + p], control) {
-        return Answer::Refused(5);
+        return Answer::Refused(refusals::WRONG_STATE);
     }
     cells[56 + p] = control;
     Answer::Done
@@ -111,10 +112,10 @@ pub fn write_control(cells: &mut [u16], port: u64, word: u64) -> Answer
     ensures { λ _. ⌜ now (cells .exit) ≡ cellsTold (controlOn (now (cells .entry)) port word) (now (cells .entry)) ⌝ }
 {
     if !well_made(cells) {
-        return Answer::Refused(13);
+        return Answer::Refused(refusals::ILL_MADE);
     }
     if cells[0] as u64 <= port {
-        return Answer::Refused(2);
+        return Answer::Refused(refusals::NO_SUCH_PORT);
     }
     controlled(cells, port as usize, word)
 }
@@ -149,10 +150,10 @@ pub fn read_status(cells: &mut [u16], port: u64) -> Status
     ensures { λ _. ⌜ now (cells .exit) ≡ cellsRead (statusOn (now (cells .entry)) port) (now (cells .entry)) ⌝ }
 {
     if !well_made(cells) {
-        return Status::Refused(13);
+        return Status::Refused(refusals::ILL_MADE);
     }
     if cells[0] as u64 <= port {
-        return Status::Refused(2);
+        return Status::Refused(refusals::NO_SUCH_PORT);
     }
     let p = port as usize;
     let word = word_of(cells, p);
@@ -227,20 +228,20 @@ fn requested(cells: &mut [u16], p: usize, value: u64) -> Answer
     ensures { λ _. ⌜ now (cells .exit) ≡ cellsTold (requestRest (now (cells .entry)) p value) (now (cells .entry)) ⌝ }
 {
     if value < 1 {
-        return Answer::Refused(10);
+        return Answer::Refused(refusals::BAD_VALUE);
     }
     if 255 < value {
-        return Answer::Refused(10);
+        return Answer::Refused(refusals::BAD_VALUE);
     }
     if cells[8 + p] != 6 {
-        return Answer::Refused(5);
+        return Answer::Refused(refusals::WRONG_STATE);
     }
     let level = level_of(value);
     if !level.at_most(budget(cells[152 + p] as u8)) {
-        return Answer::Refused(11);
+        return Answer::Refused(refusals::OVER_CLASS);
     }
     if too_much(cells, p, level) {
-        return Answer::Refused(12);
+        return Answer::Refused(refusals::OVER_SUPPLY);
     }
     cells[104 + p] = level.0;
     Answer::Done
@@ -251,10 +252,10 @@ pub fn request(cells: &mut [u16], port: u64, value: u64) -> Answer
     ensures { λ _. ⌜ now (cells .exit) ≡ cellsTold (requestOn (now (cells .entry)) port value) (now (cells .entry)) ⌝ }
 {
     if !well_made(cells) {
-        return Answer::Refused(13);
+        return Answer::Refused(refusals::ILL_MADE);
     }
     if cells[0] as u64 <= port {
-        return Answer::Refused(2);
+        return Answer::Refused(refusals::NO_SUCH_PORT);
     }
     requested(cells, port as usize, value)
 }

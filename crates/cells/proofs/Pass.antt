@@ -3,7 +3,7 @@
 use mathlib.Core.Path.{_≡_, refl, sym, _∙_, ap}
 use mathlib.Core.Bool.{cond}
 use mathlib.Core.List.{List}
-use mathlib.Core.Logic.{_⊎_, inl, inr, ⊎-elim}
+use mathlib.Core.Logic.{_⊎_, ⊎-elim}
 use Prim.Native.Nat.{ℕ, zero, suc, _+_, _*_, _≤_, _<_}
 use native.Mathlib.Nat.{le-refl, not-suc-le-zero, zero-add, add-comm}
 use native.Mathlib.Numerals.{unary-clauses}
@@ -17,8 +17,7 @@ use Rattle.port.specs.Changes.{withCounts}
 use Rattle.port.specs.declared.form.Counts.{Counts}
 use Rattle.port.specs.declared.form.Port.{Port}
 use Rattle.cells.specs.Cells.{portOf, fieldsOf, written}
-use Rattle.cells.specs.Holds.{Holds}
-use Rattle.cells.proofs.Laws.{written-self, written-cong, written-field, port-written, writes-written}
+use Rattle.cells.proofs.Laws.{written-cong, written-field, port-written, writes-written}
 use Rattle.cells.specs.Writes.{withPortCells, withCountCells, countFields}
 
 -- the ports below i are those of g, the others those of h

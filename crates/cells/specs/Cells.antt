@@ -1,5 +1,5 @@
 -- The table that a caller lends: 728 cells of 16 bits, 8 of head and then 48 of each of 15 fields. include/ipaqsuni.h has the same as a struct.
-use Prim.Native.Nat.{ℕ, _+_, _-_, _*_, _/_, _%_}
+use Prim.Native.Nat.{ℕ, _+_, _-_, _/_, _%_}
 use mathlib.Core.Bool.{Bool, cond, _&&_}
 use mathlib.Core.List.{List, [], _∷_}
 use lib.Dec.{eqb, leb, ltb}

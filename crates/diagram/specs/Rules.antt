@@ -1,8 +1,6 @@
 -- Document 01, "The port's move in one tick": the rule of each state, paragraph by paragraph. `p` is the port, `q` the port after
 -- its counters have advanced: "All counters of a state advance before any is compared".
-use Prim.Native.Nat.{ℕ}
 use mathlib.Core.Bool.{Bool, true, false, cond, not}
-use lib.Dec.{leb}
 use Rattle.power.specs.declared.Power.{Power}
 use Rattle.control.specs.Control.{enableOf, pairOf}
 use Rattle.enable.specs.Enable.{isOn, isForced}

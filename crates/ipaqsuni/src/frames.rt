@@ -5,6 +5,7 @@ use numbers::form_given;
 use numbers::no_fields;
 use reader::ReadAnswer;
 use search::Searched;
+use sizes::refusals;
 use writer::Written;
 ghost use mathlib.Core.Path.{_≡_};
 ghost use mathlib.Core.Bool.{false};
@@ -12,6 +13,8 @@ ghost use Prim.Native.Nat.{_<_};
 ghost use Rattle.numbers.specs.Numbers.{noFields};
 ghost use Rattle.ipaqsuni.specs.Outcome.{numberOf, leaves};
 ghost use Rattle.ipaqsuni.specs.Tlv.{findCall, offsetFound, sizeFound, readCall, numbersOf, Narrow, fieldsGiven, writeCall, roomWritten, sizeWritten};
+
+const RESERVED: u32 = refusals::RESERVED as u32;
 
 #[no_mangle]
 pub extern "C" fn ipaqsuni_find_power_tlv(pdu: &[u8], offset: &mut u64, length: &mut u64) -> u32
@@ -98,7 +101,7 @@ pub extern "C" fn ipaqsuni_write_power_tlv(
     ensures { λ _. ⌜ now (written .exit) ≡ leaves sizeWritten (writeCall (now (fields .entry)) (now (room .entry))) (now (written .entry)) ⌝ }
 {
     if no_fields(fields) {
-        return 3;
+        return RESERVED;
     }
     match writer::write(fields_given(fields), room) {
         Written::Is(size) => {

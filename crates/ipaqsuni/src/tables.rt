@@ -1,6 +1,7 @@
 // The calls on a table that the caller lends as cells, and its image. The core changes the cells where they stand; here its answer becomes
 // a number.
 use load::load;
+use sizes::refusals;
 use store::imageable;
 use store::store;
 use table::form::Answer;
@@ -13,6 +14,10 @@ ghost use Rattle.passes.specs.OnCells.{tickOn};
 ghost use Rattle.image.specs.Image.{roomAfter};
 ghost use Rattle.image.specs.Load.{cellsRestored};
 ghost use Rattle.ipaqsuni.specs.Calls.{answerNumber, statusNumber, wordLeft, tickNumber, maskALeft, maskBLeft, closedLeft, saveNumber, restoreNumber};
+
+const BAD_LENGTH: u32 = refusals::BAD_LENGTH as u32;
+
+const ILL_MADE: u32 = refusals::ILL_MADE as u32;
 
 fn number_of(answer: Answer) -> u32
     ensures { λ r. ⌜ r ≡ answerNumber answer ⌝ }
@@ -97,7 +102,11 @@ pub extern "C" fn ipaqsuni_save(cells: &[u16], image: &mut [u8]) -> u32
     if store(cells, image) {
         return 0;
     }
-    if imageable(cells) { 1 } else { 13 }
+    if imageable(cells) {
+        BAD_LENGTH
+    } else {
+        ILL_MADE
+    }
 }
 
 #[no_mangle]
@@ -105,5 +114,5 @@ pub extern "C" fn ipaqsuni_restore(cells: &mut [u16], image: &[u8]) -> u32
     ensures { λ r. ⌜ r ≡ restoreNumber (now (image .entry)) (now (cells .entry)) ⌝ }
     ensures { λ _. ⌜ now (cells .exit) ≡ cellsRestored (now (image .entry)) (now (cells .entry)) ⌝ }
 {
-    if load(image, cells) { 0 } else { 13 }
+    if load(image, cells) { 0 } else { ILL_MADE }
 }

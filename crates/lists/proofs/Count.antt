@@ -11,7 +11,7 @@ use lib.Pow.{pow-add, pow-mono, high, field}
 use lib.Count.{ones, ones-cat}
 use Rattle.lists.specs.Bits.{bit, one, place}
 use Rattle.lists.specs.Total.{total}
-use Rattle.lists.proofs.Total.{total-next, total-cong, total-plus, total-less}
+use Rattle.lists.proofs.Total.{total-cong, total-plus}
 use Rattle.lists.specs.Count.{count, mask}
 
 place-below : (n : ℕ) (b : Bool) → place n b ≤ 2 ^ n
@@ -83,16 +83,6 @@ count-either n f g h =
     each true false e = refl
     each false true e = refl
     each false false e = refl
-
--- one place more, as a loop counts
-pub mask-next : (n : ℕ) (f : ℕ → Bool) → mask (n + 1) f ≡ mask n f + place n (f n)
-unfolding mask
-mask-next n f = total-next n (λ p. place p (f p))
-
--- places that fail the test may be left out
-pub mask-less : (m n : ℕ) (f : ℕ → Bool) → m ≤ n → ((p : ℕ) → m ≤ p → f p ≡ false) → mask n f ≡ mask m f
-unfolding mask
-mask-less m n f h z = total-less m n (λ p. place p (f p)) h (λ p l. ap (place p) (z p l) ∙ zero-mul (2 ^ p))
 
 -- a mask of more places, by the places that come after: what they are there stands above all before
 pub mask-join : (m n : ℕ) (f : ℕ → Bool) → mask (m + n) f ≡ mask m f + mask n (λ p. f (m + p)) * 2 ^ m

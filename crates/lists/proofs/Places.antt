@@ -5,7 +5,7 @@ use mathlib.Core.Bool.{Bool, true, false, cond}
 use mathlib.Core.List.{List, _∷_}
 use mathlib.Core.Logic.{_⊎_, inl, inr, ⊎-elim}
 use Prim.Native.Nat.{ℕ, zero, suc, _+_, _≤_, _<_}
-use native.Mathlib.Nat.{le-refl, le-of-suc-le-suc, not-suc-le-zero, eq-or-lt-of-le}
+use native.Mathlib.Nat.{le-of-suc-le-suc, not-suc-le-zero, eq-or-lt-of-le}
 use native.Mathlib.Omega.{arith}
 use lib.Dec.{ltb}
 use lib.ListN.{length, getD, set, replicate, length-set, length-replicate, getD-replicate}
@@ -62,19 +62,6 @@ module _ {A : Type 0} where
               (λ (k : p < i). getD-set-other now i p v d (λ q. omega arith) ∙ F .done p k)
               (eq-or-lt-of-le {n = p} {m = i} (omega arith));
           left = λ p l. getD-set-other now i p v d (λ q. omega arith) ∙ F .left p (omega arith);
-        }
-
-    -- a place that has the value already
-    pub filled-kept : (i : ℕ) (now : List A) → Filled d f old i now → getD old i d ≡ f i → Filled d f old (i + 1) now
-    filled-kept i now F e =
-        record {
-          long = F .long;
-          done = λ p l.
-              ⊎-elim
-              (λ (q : p ≡ i). rw q (F .left i (le-refl i) ∙ e))
-              (λ (k : p < i). F .done p k)
-              (eq-or-lt-of-le {n = p} {m = i} (omega arith));
-          left = λ p l. F .left p (omega arith);
         }
 
     -- filled to the end

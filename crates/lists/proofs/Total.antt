@@ -2,7 +2,7 @@
 -- Assumes nothing.
 use mathlib.Core.Path.{_≡_, refl, sym, ap, ap₂}
 use Prim.Native.Nat.{ℕ, zero, suc, _+_, _*_, _≤_, _<_, zero-le}
-use native.Mathlib.Nat.{le-refl, le-trans, le-antisymm, add-le-add, le-add-right, le-add-left, suc-mul, eq-or-lt-of-le, le-of-suc-le-suc}
+use native.Mathlib.Nat.{le-refl, le-trans, le-antisymm, add-le-add, le-add-right, suc-mul, eq-or-lt-of-le, le-of-suc-le-suc}
 use native.Mathlib.Numerals.{add-one}
 use native.Mathlib.Omega.{arith}
 use mathlib.Core.Logic.{⊎-elim}
@@ -49,11 +49,6 @@ total-fewer m (suc n) f h =
     (λ (e : m ≡ suc n). rw e (le-refl (total (suc n) f)))
     (λ (l : m < suc n). le-trans (total-fewer m n f (le-of-suc-le-suc l)) (le-add-right (total n f) (f n)))
     (eq-or-lt-of-le h)
-
--- one place is at most the sum
-pub total-one : (n : ℕ) (f : ℕ → ℕ) (p : ℕ) → p < n → f p ≤ total n f
-unfolding total
-total-one n f p l = le-trans (le-add-left (f p) (total p f)) (total-fewer (suc p) n f l)
 
 -- places that count nothing may be left out
 pub total-less : (m n : ℕ) (f : ℕ → ℕ) → m ≤ n → ((p : ℕ) → m ≤ p → f p ≡ 0) → total n f ≡ total m f

@@ -37,7 +37,7 @@ use Rattle.table.specs.Parts.{portAt}
 use Rattle.table.specs.declared.form.Table.{Table}
 use Rattle.cells.specs.Cells.{cellsLong, countCell, portOf, tableOf, portHolds, written, cellsWith}
 use Rattle.cells.specs.Holds.{Holds}
-use Rattle.cells.proofs.Laws.{table-at, written-long, written-head, written-cong, written-again, written-set, port-written}
+use Rattle.cells.proofs.Laws.{table-at, written-long, written-cong, written-again, written-set, port-written}
 use Rattle.cells.proofs.Round.{holds-written}
 use Rattle.quick.proofs.Quick.{signsOf}
 use Rattle.quick.specs.Sweep.{signsBy, lookedAt, isMarked, lookedLane, sweepable, sweptCells, sweptLane, sweptLeft}
@@ -183,9 +183,6 @@ module _ (l block lane : List ℕ) (ready : Ready l block lane) where
   pub cells1-long : length (sweptCells l lane) ≡ cellsLong
   cells1-long = ap length cells1 ∙ written-long n after l ∙ well .long
 
-  pub cells1-count : countCell (sweptCells l lane) ≡ n
-  cells1-count = ap countCell cells1 ∙ written-head n after l 0 (omega arith) (omega (arith, long))
-
   pub cells1-holds : Holds n (sweptCells l lane)
   cells1-holds p h = ap (λ (x : List ℕ). portHolds x p) cells1 ∙ holds-written n after l few long p h
 
@@ -257,13 +254,6 @@ module _ (l block lane : List ℕ) (ready : Ready l block lane) where
           ∙ set-one (markedMove (getD (sweptLane l lane) p 0) block (sweptCells l lane) p .asks)
           ∙ ap (λ (m : Moved). m .asks) (move-is p h)
       go false q = lane1-set p h ∙ none-left q p h ∙ sym (ap (λ (m : Moved). m .asks) (unmarked-is p h (none-left q p h)))
-
-  pub asked-past : (p : ℕ) → n ≤ p → p < mostPorts → getD lane2 p 0 ≡ 0
-  unfolding askedOn steppedLane
-  asked-past p h k =
-      choice (λ (x : List ℕ). getD x p 0 ≡ 0) (sweptLeft l lane) _ (sweptLane l lane)
-      (getD-tabulate mostPorts _ 0 p k ∙ simp (le-ltb p n h) (lane1-past p h k))
-      (lane1-past p h k)
 
   -- where it is said that no port asks, none does
   none-asks : someAsk l block lane ≡ false → (p : ℕ) → p < n → mv p .asks ≡ false

@@ -6,6 +6,7 @@ use fields::bad_values;
 use header::is_power;
 use header::length_at;
 use header::word_at;
+use sizes::refusals;
 ghost use mathlib.Core.Path.{_≡_};
 ghost use mathlib.Core.Bool.{true};
 ghost use Prim.Native.Nat.{_+_, _<_, _≤_};
@@ -64,17 +65,17 @@ pub fn read(bytes: &[u8]) -> ReadAnswer
     ensures { λ r. ⌜ r ≡ readOf (now (bytes .entry)) ⌝ }
 {
     if bytes.len() < 2 {
-        return ReadAnswer::Refused(6);
+        return ReadAnswer::Refused(refusals::CUT);
     }
     if bytes.len() < 2 + length_at(bytes, 0) {
-        return ReadAnswer::Refused(6);
+        return ReadAnswer::Refused(refusals::CUT);
     }
     if !exactly_one(bytes) {
-        return ReadAnswer::Refused(9);
+        return ReadAnswer::Refused(refusals::NOT_ONE_TLV);
     }
     let form = form_in(bytes);
     if bad_values(form) {
-        return ReadAnswer::Refused(10);
+        return ReadAnswer::Refused(refusals::BAD_VALUE);
     }
     ReadAnswer::Is(Fields {
         support: bytes[6],

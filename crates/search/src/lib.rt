@@ -1,5 +1,6 @@
 // The search: one walk over a PDU, TLV by TLV, that copies nothing.
 use header::is_power;
+use sizes::refusals;
 use walk::Step;
 use walk::tlv_at;
 ghost use mathlib.Core.Path.{_≡_};
@@ -40,9 +41,9 @@ fn answer(seen: Seen) -> Searched
     ensures { λ r. ⌜ r ≡ answerOf seen ⌝ }
 {
     match seen {
-        Seen::Nothing => Searched::Refused(7),
+        Seen::Nothing => Searched::Refused(refusals::NO_TLV),
         Seen::One(at, size) => Searched::Is(at, size),
-        Seen::More => Searched::Refused(8),
+        Seen::More => Searched::Refused(refusals::SEVERAL_TLVS),
     }
 }
 
@@ -51,14 +52,14 @@ pub fn search(pdu: &[u8]) -> Searched
     ensures { λ r. ⌜ r ≡ searchOf (now (pdu .entry)) ⌝ }
 {
     if 1_500 < pdu.len() {
-        return Searched::Refused(1);
+        return Searched::Refused(refusals::BAD_LENGTH);
     }
     let mut at = 0;
     let mut seen = Seen::Nothing;
     loop {
         match tlv_at(pdu, at) {
             Step::End => return answer(seen),
-            Step::Cut => return Searched::Refused(6),
+            Step::Cut => return Searched::Refused(refusals::CUT),
             Step::Tlv(size) => {
                 seen = noted(pdu, at, size, seen);
                 at += size;

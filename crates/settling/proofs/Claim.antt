@@ -40,15 +40,6 @@ urgency-small High = omega arith
 urgency-small Low = omega arith
 urgency-small Unknown = omega arith
 
--- a port that does not ask claims exactly if it is closed
-pub claims-closed : (now : State) (control : ℕ) → ltb (rankIn now control false) 6 ≡ closed now
-unfolding rankIn
-claims-closed now control = go (closed now)
-  where
-    go : (b : Bool) → ltb (cond b (urgency (priorityOf control)) 6) 6 ≡ b
-    go true = lt-ltb (urgency (priorityOf control)) 6 (omega (arith, urgency-small (priorityOf control)))
-    go false = refl
-
 pub settled-still : (r : ℕ) (kept : Bool) (p : Port) → settlingChanges r kept ≡ false → settledAs r kept p .port ≡ p
 unfolding settledAs settlingChanges
 settled-still r kept p =

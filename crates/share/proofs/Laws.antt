@@ -153,10 +153,6 @@ module _ (n : ℕ) (rank demand : ℕ → ℕ) where
         (λ (k : keeps n rank demand supply p ≡ false). k)
         (passed (keeps n rank demand supply p))
 
-    -- a supply for all claims keeps them all
-    pub all-kept : (p : ℕ) → claimedSum n rank demand ≤ supply → claims rank p ≡ true → keeps n rank demand supply p ≡ true
-    all-kept p h e = fits-kept p e (le-trans (down-claimed p) h)
-
     pub all-keep : (p : ℕ) → claimedSum n rank demand ≤ supply → keeps n rank demand supply p ≡ claims rank p
     unfolding keeps
     all-keep p h =
@@ -290,9 +286,3 @@ module _ (n : ℕ) (rank rank' demand demand' : ℕ → ℕ)
   pub keeps-cong : (supply p : ℕ) → p < n → keeps n rank demand supply p ≡ keeps n rank' demand' supply p
   unfolding keeps
   keeps-cong supply p l = rw (claims-cong p l, down-cong p l)
-
-  pub kept-sum-cong : (supply : ℕ) → keptSum n rank demand supply ≡ keptSum n rank' demand' supply
-  unfolding keptSum sumWhere
-  kept-sum-cong supply =
-      total-cong n (λ p. cond (keeps n rank demand supply p) (demand p) 0) (λ p. cond (keeps n rank' demand' supply p) (demand' p) 0)
-      (λ p l. rw (keeps-cong supply p l, ed p l))

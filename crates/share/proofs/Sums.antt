@@ -22,7 +22,7 @@ use Rattle.power.specs.Power.{sumOf, plus, join, fits}
 use Rattle.power.proofs.PowerLaws.{plus-exact, join-exact}
 use Rattle.power.specs.declared.Power.{Power}
 use Rattle.power.specs.declared.Sum.{Sum}
-use Rattle.share.specs.Share.{claims, before, met, sumWhere, down, keeps, claimedSum}
+use Rattle.share.specs.Share.{claims, before, met, sumWhere, down, keeps}
 use Rattle.share.specs.Slots.{Small, within, slotOf, ofSlot, joined}
 use Rattle.share.proofs.Slots.{ofLower}
 use Rattle.share.proofs.Laws.{sum-none, met-self, met-before, met-cases, before-rank, before-place, before-trans, before-self}

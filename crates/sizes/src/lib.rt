@@ -1,4 +1,5 @@
 // The numbers that several crates name, each once. The definitions have theirs in specs/Sizes, and beside what they measure.
+pub mod refusals;
 
 // "1 to 48 Type 2 ports"
 pub const PORTS: usize = 48;

@@ -10,6 +10,7 @@ use power::Power;
 use quick::sweep;
 use sizes::PORTS;
 use sizes::SAMPLE;
+use sizes::refusals;
 use table::form::Closed;
 use tally::closed_ports;
 use tally::drawn;
@@ -35,21 +36,21 @@ fn refusal(cells: &[u16], block: &[u8], figure: u64, lane: &mut [u16]) -> u8
     ensures { λ r. ⌜ (r ≡ 0 → now (lane .exit) ≡ flagLane (countCell (now (cells .entry))) (now (block .entry)) (now (lane .entry))) ⌝ }
 {
     if !well_head(cells) {
-        return 13;
+        return refusals::ILL_MADE;
     }
     let n = cells[0] as usize;
     let clean = flags_into(block, n, lane);
     if !well_made(cells) {
-        return 13;
+        return refusals::ILL_MADE;
     }
     if block.len() != SAMPLE * n {
-        return 1;
+        return refusals::BAD_LENGTH;
     }
     let highest = Power::HIGHEST_SUPPLY.0;
     if figure > highest as u64 {
-        return 4;
+        return refusals::SUPPLY_TOO_LARGE;
     }
-    if clean { 0 } else { 3 }
+    if clean { 0 } else { refusals::RESERVED }
 }
 
 // Every port moves. The lane has the flags of every port at first, and a number other than 0 for each that asks then. Does one?

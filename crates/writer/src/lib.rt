@@ -3,6 +3,7 @@ use fields::Added;
 use fields::Fields;
 use fields::Form;
 use fields::bad_values;
+use sizes::refusals;
 ghost use mathlib.Core.Path.{_≡_};
 ghost use mathlib.Core.Bool.{false};
 ghost use Prim.Native.Nat.{_≤_};
@@ -68,22 +69,22 @@ pub fn write(fields: Fields, room: &mut [u8]) -> Written
 {
     let form = fields.form;
     if bad_codes(form) {
-        return Written::Refused(3);
+        return Written::Refused(refusals::RESERVED);
     }
     if bad_values(form) {
-        return Written::Refused(10);
+        return Written::Refused(refusals::BAD_VALUE);
     }
     match form {
         Form::Short => {
             if room.len() < 9 {
-                return Written::Refused(1);
+                return Written::Refused(refusals::BAD_LENGTH);
             }
             put_head(fields, 7, room);
             Written::Is(9)
         }
         Form::Long(added) => {
             if room.len() < 14 {
-                return Written::Refused(1);
+                return Written::Refused(refusals::BAD_LENGTH);
             }
             put_head(fields, 12, room);
             put_added(added, room);

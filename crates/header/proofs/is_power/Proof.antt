@@ -1,7 +1,7 @@
 -- `is_power` is `isPower`: type, length and the four fixed bytes, in that order. A type that is not 0 stands there, so that its place is
 -- one of the bytes'; and where the fourth byte is past the end it is not the one that is asked for.
 -- Assumes nothing.
-use mathlib.Core.Path.{_≡_, _∙_, sym}
+use mathlib.Core.Path.{_≡_}
 use mathlib.Core.Bool.{false}
 use Prim.Native.Nat.{_+_, _<_}
 use native.Mathlib.Omega.{arith}

@@ -2,8 +2,8 @@
 -- Assumes nothing.
 use borrow.Author.Needs.{needs}
 use Prim.Native.Nat.{_-_, _/_}
-use lib.ListN.{length, length-set}
-use mathlib.Core.Path.{_≡_, _∙_}
+use lib.ListN.{length}
+use mathlib.Core.Path.{_≡_}
 use native.Mathlib.Omega.{arith}
 use Rattle.console.proofs.commands.fill.Statement.{statement}
 use Rattle.console.proofs.commands.fill.Tie as tie
