@@ -18,7 +18,6 @@ use Rattle.port.specs.declared.form.Port.{Port}
 use Rattle.port.specs.declared.form.Reading.{Reading}
 use Rattle.port.specs.declared.form.State.{State}
 use Rattle.port.specs.declared.form.State.the-variants.{Disabled, Idle, Detecting, Backoff, Classifying, PowerUp, PowerOn, ErrorDelay, TestMode, TestError}
-use Rattle.statements.specs.ShareRows.{settles}
 
 -- what a sample reads: nothing is done and a load is present, but for what is named
 abbrev pub reads : Detection → Classing → Bool → Bool → Bool → Bool → Reading

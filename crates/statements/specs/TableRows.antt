@@ -14,7 +14,6 @@ use Rattle.replies.specs.Calls.{coldPort}
 use Rattle.table.specs.Parts.{zeroCounts}
 use Rattle.table.specs.declared.form.Table.{Table}
 use Rattle.statements.specs.MoveWords.{counts}
-use Rattle.statements.specs.CallRows.{control}
 
 -- a port with a state, a class, a control word, a demand and counters
 abbrev pub port : State → ℕ → ℕ → ℕ → Counts → Port
