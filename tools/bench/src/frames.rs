@@ -1,4 +1,4 @@
-//! The stored frames: crates/frames/stdin holds those that lldpd sent (tools/frames) and what tools/frames/damage.py made of
+//! The stored frames: crates/frames/stdin holds those that lldpd sent (tools/frames) and what tools/frames/expected made of
 //! them, each record a kind, a length of two bytes and the content. Kind 0 is a PDU, kind 2 a part for the reader.
 
 use crate::plain::tlv;

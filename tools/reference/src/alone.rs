@@ -1,6 +1,6 @@
 //! What a script should have tried one by one: each flag alone, each word of the
-//! six flags in each state, each bit of a control word, a count of 49, bytes that
-//! an earlier line left. A move counts here only if a dump shows what it left.
+//! six flags in each state, each bit of a control word, each status word, a count
+//! of 49, bytes that an earlier line left. A move counts here only if a dump shows what it left.
 
 use std::collections::{BTreeMap, BTreeSet};
 use std::fmt::Write;
@@ -31,6 +31,9 @@ pub struct Alone {
     control_words: BTreeSet<u64>,
     control_bits: BTreeSet<u32>,
     requests: BTreeSet<(u8, u64)>,
+    status_words: BTreeSet<u16>,
+    /// Of the only port, where nothing else of it could be refused.
+    demands: BTreeSet<u16>,
     at_49: BTreeMap<&'static str, u64>,
     left_over: BTreeMap<&'static str, u64>,
     /// What the HEX of all lines so far would leave in one long buffer.
@@ -53,6 +56,11 @@ impl Alone {
             }
             (Line::Request(port, value), Answer::Ok | Answer::Refused(11 | 12)) => {
                 self.requests.insert((before.ports[*port as usize].class, *value));
+            }
+            (Line::Status(0), Answer::Refused(13)) => self.demand(before),
+            (Line::Status(_), Answer::Status(word)) => {
+                self.status_words.insert(*word);
+                self.demand(before);
             }
             _ => {}
         }
@@ -88,6 +96,14 @@ impl Alone {
         let above = word >> 6;
         if above.is_power_of_two() && !control_reserved(word % 64) {
             self.control_bits.insert(6 + above.trailing_zeros());
+        }
+    }
+
+    fn demand(&mut self, before: &Table) {
+        let port = before.ports[0];
+        let fine = before.supply <= 60_000 && !Port { demand: 0, ..port }.ill_made();
+        if before.count == 1 && fine {
+            self.demands.insert(port.demand);
         }
     }
 
@@ -173,10 +189,17 @@ impl Alone {
         }
         let edges = [1, 38, 39, 64, 65, 129, 130, 255];
         let near = self.requests.iter().filter(|request| edges.contains(&request.1)).count();
+        let low = self.demands.range(..64).count();
         let bits = "bits 6 to 63 alone beside a right control word";
         sets.extend([
             ("control words below 64 in DISABLED".into(), 64, self.control_words.len()),
             (bits.into(), 58, self.control_bits.len()),
+            (
+                "latches by class by condition in a status".into(),
+                64 * 5 * 5,
+                self.status_words.len(),
+            ),
+            ("demands below 64, the only port's".into(), 64, low),
             ("values at a step of the request, by class".into(), 5 * edges.len(), near),
         ]);
         sets

@@ -3,6 +3,7 @@
 //!
 //!     reference answer                      answers the lines of standard input
 //!     reference script SEED LINES [KIND]    makes a script for the console
+//!     reference words                       each word, status and small demand
 //!     reference count                       counts what a script meets
 
 use reference::{count, lines, scripts};
@@ -11,6 +12,7 @@ use std::process::ExitCode;
 
 const USAGE: &str = "usage: reference answer < LINES
        reference script SEED LINES [KIND] > LINES
+       reference words > LINES
        reference count < LINES
 KIND: mixed (the default), walks, limits, illmade, frames, readings, bad,
 alone, cells";
@@ -21,6 +23,7 @@ fn main() -> ExitCode {
     let done = match words[..] {
         ["answer"] => answer(),
         ["count"] => count_all(),
+        ["words"] => io::stdout().lock().write_all(&scripts::words()),
         ["script", seed, lines] => script(seed, lines, "mixed"),
         ["script", seed, lines, kind] => script(seed, lines, kind),
         _ => Err(io::Error::other(USAGE)),

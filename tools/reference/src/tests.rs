@@ -355,14 +355,14 @@ fn broken_cells() {
     assert_eq!(said("cells -"), "ok");
 }
 
-/// Same seed, same script; and a script of the size that is stored meets every
-/// state, exit, latch, refusal, order of checks and corner.
+/// Same seed, same script; and a script of the size that is stored, with each word
+/// once, meets every state, exit, latch, refusal, order of checks and corner.
 #[test]
 fn a_script_meets_everything() {
     let script = scripts::made(1, 25_500, scripts::Kind::Mixed);
     assert_eq!(script, scripts::made(1, 25_500, scripts::Kind::Mixed));
     assert_eq!(script.iter().filter(|&&byte| byte == b'\n').count(), 25_500);
-    let counts = count::counted(&script);
+    let counts = count::counted(&[script, scripts::words()].concat());
     for row in counts.lines() {
         assert!(!row.ends_with("| 0 |") && !row.contains("NOT LISTED"), "{row}");
     }
@@ -373,7 +373,7 @@ fn a_script_meets_everything() {
     }
     let one_by_one = counts.lines().skip_while(|row| !row.starts_with("| One by one"));
     let rows: Vec<&str> = one_by_one.skip(2).take_while(|row| !row.is_empty()).collect();
-    assert_eq!(rows.len(), 19);
+    assert_eq!(rows.len(), 21);
     for row in rows {
         let cells: Vec<&str> = row.split(" | ").collect();
         assert_eq!(cells[1], cells[2].trim_end_matches(" |"), "{row}");

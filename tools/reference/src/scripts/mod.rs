@@ -9,6 +9,7 @@ mod frames;
 mod readings;
 mod tables;
 mod walks;
+mod words;
 
 use crate::cells::seen;
 use crate::lines::{hex_text, Answer, Console};
@@ -16,6 +17,8 @@ use crate::port::State;
 use crate::random::Random;
 use crate::table::{Table, Ticked};
 use std::collections::BTreeMap;
+
+pub use words::words;
 
 #[derive(Clone, Copy, PartialEq, Eq, Debug)]
 pub enum Kind {

@@ -1,0 +1,79 @@
+//! Words of the management side and small demands, all of them one by one: there
+//! is no chance in it.
+
+use crate::image::written;
+use crate::lines::hex_text;
+use crate::port::{control_reserved, Port, State, STATES};
+use crate::reading::SAMPLE_BYTES;
+use crate::table::{Table, PLACES};
+
+/// Words past the fields: with bit 6, 7, 8 or 15, and with all.
+const WIDE: [u16; 7] = [64, 68, 132, 154, 300, 32_772, 65_535];
+
+/// What four forced ports draw, and eight, twelve and sixteen.
+const FORCED_FIGURES: [u64; 4] = [616, 1_232, 1_848, 2_464];
+
+pub fn words() -> Vec<u8> {
+    let mut lines = Vec::new();
+    control_words(&mut lines);
+    status_words(&mut lines);
+    demands(&mut lines);
+    lines.iter().flat_map(|line| format!("{line}\n").into_bytes()).collect()
+}
+
+fn numbers() -> impl Iterator<Item = u16> {
+    (0..64).chain(WIDE)
+}
+
+fn image_line(ports: &[Port]) -> String {
+    let mut table = Table::zero();
+    table.count = ports.len() as u16;
+    table.ports = [Port::COLD; PLACES];
+    table.ports[..ports.len()].copy_from_slice(ports);
+    format!("table {}", hex_text(&written(&table)))
+}
+
+/// Each control word, those that a write takes in two ports. Then ticks: the
+/// enable shows in where the ports go, the priority in which of the forced are
+/// kept, the alternative in the masks.
+fn control_words(lines: &mut Vec<String>) {
+    let (wrong, right): (Vec<u16>, Vec<u16>) =
+        numbers().partition(|&word| control_reserved(u64::from(word)));
+    lines.push("cold 48".to_string());
+    for (place, word) in right.iter().chain(&right).enumerate() {
+        lines.push(format!("control {place} {word}"));
+    }
+    lines.extend(wrong.iter().map(|word| format!("control 0 {word}")));
+    let quiet = "00".repeat(PLACES * SAMPLE_BYTES);
+    lines.push("dump".to_string());
+    for figure in [0].into_iter().chain(FORCED_FIGURES) {
+        lines.push(format!("tick {figure} {quiet}"));
+        lines.push("dump".to_string());
+    }
+}
+
+/// Each status word: each set of latches with each class and each condition, the
+/// states of a condition in turn.
+fn status_words(lines: &mut Vec<String>) {
+    let mut ports = Vec::new();
+    for condition in 0..5 {
+        let states: Vec<State> =
+            STATES.into_iter().filter(|state| state.condition() == condition).collect();
+        for (class, latches) in (0..5).flat_map(|class| (0..64).map(move |set| (class, set))) {
+            let state = states[ports.len() % states.len()];
+            ports.push(Port { state, class, latches, ..Port::COLD });
+        }
+    }
+    for chunk in ports.chunks(PLACES) {
+        lines.push(image_line(chunk));
+        lines.extend((0..chunk.len()).map(|place| format!("status {place}")));
+    }
+}
+
+/// Each number as the demand of the only port: none, a class's budget, or 13.
+fn demands(lines: &mut Vec<String>) {
+    for demand in numbers() {
+        lines.push(image_line(&[Port { demand, ..Port::COLD }]));
+        lines.push("status 0".to_string());
+    }
+}
