@@ -1,7 +1,7 @@
 // The class that one or two currents (µA) show, and what a port of a class may draw.
 use power::Power;
 ghost use mathlib.Core.Path.{_≡_};
-ghost use Rattle.class.specs.Class.{classOf, isFour, classOfTwo, budgetOf, isDemand};
+ghost use Rattle.class.specs.Class.{classOf, isFour, classOfTwo, budgetOf};
 
 pub enum Class {
     Is(u8),
@@ -57,20 +57,4 @@ pub fn budget(class: u8) -> Power
     } else {
         Power::ZERO
     }
-}
-
-// Half of each budget, in the byte that this half modulo 8 names: no two budgets share a byte, and a byte that none has is 0.
-// So a demand is told with no branch, as it is asked of 48 ports in every tick.
-const HALVED_DEMANDS: u64 = ((BUDGETS[1] as u64 / 2) << (BUDGETS[1] / 2 % 8 * 8))
-    + ((BUDGETS[2] as u64 / 2) << (BUDGETS[2] / 2 % 8 * 8))
-    + ((BUDGETS[3] as u64 / 2) << (BUDGETS[3] / 2 % 8 * 8))
-    + ((BUDGETS[4] as u64 / 2) << (BUDGETS[4] / 2 % 8 * 8));
-
-// A demand that a port of a well-made table may have: none, or a class's budget.
-pub fn is_demand(demand: Power) -> bool
-    ensures { λ r. ⌜ r ≡ isDemand demand ⌝ }
-{
-    let d = demand.0;
-    let place = d / 2 % 8 * 8;
-    (HALVED_DEMANDS >> place) % 256 * 2 == d as u64
 }

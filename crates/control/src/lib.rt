@@ -1,7 +1,6 @@
 // The control word: its three fields, the word of three fields, and which words a write refuses.
 ghost use mathlib.Core.Path.{_≡_};
-ghost use Prim.Native.Nat.{_<_};
-ghost use Rattle.control.specs.Control.{enableOf, pairOf, priorityOf, controlOf, enableCode, pairCode, priorityCode, wordOf, refused};
+ghost use Rattle.control.specs.Control.{enableOf, pairOf, priorityOf, refused};
 
 // Document 01, "1:0 enable": codes 00, 01, 10 and 11.
 pub enum Enable {
@@ -64,61 +63,6 @@ pub fn priority_of(word: u16) -> Priority
         2 => Priority::High,
         _ => Priority::Low,
     }
-}
-
-pub fn control_of(word: u16) -> Control
-    ensures { λ r. ⌜ r ≡ controlOf word ⌝ }
-{
-    let enable = enable_of(word);
-    let pair = pair_of(word);
-    let priority = priority_of(word);
-    Control {
-        enable,
-        pair,
-        priority,
-    }
-}
-
-fn enable_code(enable: Enable) -> u16
-    ensures { λ r. ⌜ (r ≡ enableCode enable) × (r < 4) ⌝ }
-{
-    match enable {
-        Enable::Disabled => 0,
-        Enable::Enabled => 1,
-        Enable::Forced => 2,
-        Enable::Reserved => 3,
-    }
-}
-
-fn pair_code(pair: Pair) -> u16
-    ensures { λ r. ⌜ (r ≡ pairCode pair) × (r < 4) ⌝ }
-{
-    match pair {
-        Pair::Neither => 0,
-        Pair::A => 1,
-        Pair::B => 2,
-        Pair::Both => 3,
-    }
-}
-
-fn priority_code(priority: Priority) -> u16
-    ensures { λ r. ⌜ (r ≡ priorityCode priority) × (r < 4) ⌝ }
-{
-    match priority {
-        Priority::Unknown => 0,
-        Priority::Critical => 1,
-        Priority::High => 2,
-        Priority::Low => 3,
-    }
-}
-
-pub fn word_of(control: Control) -> u16
-    ensures { λ r. ⌜ r ≡ wordOf control ⌝ }
-{
-    let enable = control.enable;
-    let pair = control.pair;
-    let priority = control.priority;
-    enable_code(enable) + 4 * pair_code(pair) + 16 * priority_code(priority)
 }
 
 // Bit w is set if the word w, of those below 64, has a reserved code: enable 11, or pair control 00 or 11.

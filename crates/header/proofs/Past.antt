@@ -8,8 +8,9 @@ use native.Mathlib.Omega.{arith}
 use lib.Dec.{leb}
 use lib.ListN.{length, getD, List·getD-eq-default}
 use borrow.Author.Tests.{leb-true, leb-false}
+use Rattle.lists.specs.Bytes.{wordAt}
 use Rattle.lists.specs.Bits.{field}
-use Rattle.header.specs.Header.{wordAt, typeAt, fixedAt}
+use Rattle.header.specs.Header.{typeAt, fixedAt}
 use Rattle.header.proofs.Fixed.{spelt}
 
 module _ (b : List ℕ) (at : ℕ) where

@@ -1,14 +1,11 @@
 -- Document 01, "The power TLV": the header, and what makes a TLV a power TLV.
-use Prim.Native.Nat.{ℕ, _+_, _*_}
+use Prim.Native.Nat.{ℕ, _+_}
 use mathlib.Core.Bool.{Bool, true, _&&_}
 use mathlib.Core.List.{List, [], _∷_}
 use lib.Dec.{eqb, leb}
 use lib.ListN.{getD}
+use Rattle.lists.specs.Bytes.{wordAt}
 use Rattle.lists.specs.Bits.{field}
-
--- a number of two bytes, the high one first
-unfoldable pub wordAt : List ℕ → ℕ → ℕ
-wordAt bytes at = 256 * getD bytes at 0 + getD bytes (at + 1) 0
 
 -- "Type 127 (7 bits)"
 unfoldable pub typeAt : List ℕ → ℕ → ℕ

@@ -3,7 +3,8 @@
 ghost use mathlib.Core.Path.{_≡_};
 ghost use Prim.Native.Nat.{_+_, _<_, _^_};
 ghost use lib.ListN.{length};
-ghost use Rattle.header.specs.Header.{wordAt, typeAt, lengthAt, fixedAt, isPower};
+ghost use Rattle.lists.specs.Bytes.{wordAt};
+ghost use Rattle.header.specs.Header.{typeAt, lengthAt, fixedAt, isPower};
 
 pub fn word_at(bytes: &[u8], at: usize) -> u16
     ensures { λ r. ⌜ r ≡ wordAt (now (bytes .entry)) at ⌝ }

@@ -10,6 +10,7 @@ use native.Mathlib.Omega.{arith}
 use lib.Dec.{eqb, ltb}
 use lib.ListN.{length, getD, List·getD-eq-default}
 use borrow.Author.Tests.{eqb-true, leb-true, leb-false, ltb-false, not-true, not-false}
+use Rattle.lists.specs.Bytes.{wordAt}
 use Rattle.lists.specs.Bits.{above}
 use Rattle.lists.specs.Every.{someBelow}
 use Rattle.lists.proofs.Every.{every-at, nowhere}
@@ -21,7 +22,7 @@ use Rattle.lists.proofs.Tests.{choice}
 use Rattle.power.specs.Power.{forced, tenths}
 use Rattle.class.specs.Class.{classOf, isFour, classOfTwo}
 use Rattle.class.proofs.Laws.{atMostFour, class-of-two-at-most-four}
-use Rattle.sample.specs.Sample.{wordAt, sampleAt, reservedFlags, flagsOf}
+use Rattle.sample.specs.Sample.{sampleAt, reservedFlags, flagsOf}
 use Rattle.signature.specs.Signature.{outside, signatureOf}
 use Rattle.class.specs.declared.Class.{Class}
 use Rattle.class.specs.declared.Class.the-variants.{Is, Failure}

@@ -9,8 +9,8 @@ use lib.Dec.{eqb}
 use lib.ListN.{length, getD, take, drop, replicate, length-drop}
 use lib.Seq.{getD-drop, drop-drop}
 use borrow.Author.Tests.{le-leb, lt-leb}
+use Rattle.lists.specs.Bytes.{wordAt}
 use Rattle.lists.proofs.Tests.{choice}
-use Rattle.sample.specs.Sample.{wordAt}
 use Rattle.statements.specs.History.{Call, control, status, requested, ticked}
 use Rattle.history.specs.Decode.{ofWords, numberAt, callOf, blockLong, firstCall, callsFrom, callsOf}
 use Rattle.history.specs.Lent.{cellsAfter, ranOn, cellsStarted, cellsReached}

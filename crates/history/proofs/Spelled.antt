@@ -6,7 +6,7 @@ use mathlib.Core.List.{List, [], _∷_, _++_}
 use native.Mathlib.Omega.{arith}
 use lib.ListN.{length, take, drop, length-append}
 use lib.Seq.{take-append-seam, drop-append-seam, drop-drop}
-use Rattle.sample.specs.Sample.{wordAt}
+use Rattle.lists.specs.Bytes.{wordAt}
 use Rattle.statements.specs.History.{Call, control, status, requested, ticked}
 use Rattle.history.specs.Decode.{numberAt, callOf, blockLong, firstCall, callsFrom, callsOf}
 use Rattle.history.proofs.Running.{record-more, record-none}

@@ -5,7 +5,7 @@ use mathlib.Core.Bool.{cond}
 use mathlib.Core.List.{List, [], _∷_}
 use lib.Dec.{leb, eqb}
 use lib.ListN.{length, getD, take, drop}
-use Rattle.sample.specs.Sample.{wordAt}
+use Rattle.lists.specs.Bytes.{wordAt}
 use Rattle.statements.specs.History.{Call, control, status, requested, ticked}
 
 -- two words, the higher first

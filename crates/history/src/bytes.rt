@@ -2,7 +2,7 @@
 ghost use mathlib.Core.Path.{_≡_};
 ghost use Prim.Native.Nat.{_+_, _<_, _^_};
 ghost use lib.ListN.{getD};
-ghost use Rattle.sample.specs.Sample.{wordAt};
+ghost use Rattle.lists.specs.Bytes.{wordAt};
 ghost use Rattle.history.specs.Decode.{numberAt};
 
 fn wide(byte: u8) -> u64

@@ -10,6 +10,7 @@ use native.Mathlib.Omega.{arith}
 use lib.Dec.{ltb, leb, eqb}
 use lib.ListN.{length, getD}
 use borrow.Author.Tests.{lt-ltb, le-ltb, le-leb, leb-true, ltb-true, eq-eqb, eqb-true}
+use Rattle.lists.specs.Bytes.{wordAt}
 use Rattle.sizes.specs.Sizes.{mostPorts}
 use Rattle.lists.proofs.Every.{every-of}
 use Rattle.lists.specs.Places.{tabulate}
@@ -24,7 +25,7 @@ use Rattle.cells.proofs.CodeLaws.{state-back, code-small, code-again, latches-b
 use Rattle.cells.specs.Codes.{stateOf, latchesOf}
 use Rattle.cells.proofs.Round.{cells-long, cells-port, cells-holds, cells-table}
 use Rattle.image.specs.Image.{word, portBytes, headBytes, byteAt, imageOf, portSaves, imageable, saves, roomAfter, imageLong, imagePort}
-use Rattle.image.specs.Load.{wordAt, countsIn, portIn, portReads, tableIn, reads, restores, cellsRestored}
+use Rattle.image.specs.Load.{countsIn, portIn, portReads, tableIn, reads, restores, cellsRestored}
 use Rattle.image.proofs.Load.{reads-long, reads-port}
 
 -- what stands at a place of the image: a byte of the head, or of a port

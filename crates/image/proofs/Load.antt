@@ -7,11 +7,12 @@ use mathlib.Core.List.{List}
 use lib.Dec.{eqb}
 use lib.ListN.{length}
 use borrow.Author.Tests.{eqb-true}
+use Rattle.lists.specs.Bytes.{wordAt}
 use Rattle.sizes.specs.Sizes.{mostPorts}
 use Rattle.image.specs.Image.{imageLong, imagePort}
 use Rattle.lists.proofs.Every.{every-at}
 use Rattle.lists.proofs.Tests.{and-left, and-right}
-use Rattle.image.specs.Load.{wordAt, portReads, reads}
+use Rattle.image.specs.Load.{portReads, reads}
 
 pub reads-long : (bytes : List ℕ) → reads bytes ≡ true → length bytes ≡ imageLong
 unfolding reads

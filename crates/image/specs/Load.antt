@@ -4,6 +4,7 @@ use mathlib.Core.Bool.{Bool, cond, _&&_}
 use mathlib.Core.List.{List}
 use lib.Dec.{leb, ltb, eqb}
 use lib.ListN.{length, getD}
+use Rattle.lists.specs.Bytes.{wordAt}
 use Rattle.sizes.specs.Sizes.{mostPorts}
 use Rattle.image.specs.Image.{imageLong, imagePort}
 use Rattle.lists.specs.Every.{every}
@@ -14,10 +15,6 @@ use Rattle.port.specs.declared.form.Port.{Port}
 use Rattle.table.specs.declared.form.Table.{Table}
 use Rattle.cells.specs.Cells.{cellsLong, cellsOf}
 use Rattle.cells.specs.Codes.{stateOf, latchesOf}
-
--- two bytes, the high one first
-unfoldable pub wordAt : List ℕ → ℕ → ℕ
-wordAt bytes at = 256 * getD bytes at 0 + getD bytes (at + 1) 0
 
 unfoldable pub countsIn : List ℕ → ℕ → Counts
 countsIn bytes at =

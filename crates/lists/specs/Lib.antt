@@ -1,4 +1,5 @@
 pub mod Bits
+pub mod Bytes
 pub mod Count
 pub mod Every
 pub mod Ladder

@@ -10,6 +10,7 @@ use lib.Dec.{leb, ltb}
 use lib.ListN.{length, getD, set, replicate, length-set, length-replicate, getD-replicate}
 use lib.Seq.{getD-set-other}
 use borrow.Author.Tests.{leb-true, ltb-true}
+use Rattle.lists.specs.Bytes.{wordAt}
 use Rattle.sizes.specs.Sizes.{mostPorts}
 use Rattle.image.specs.Image.{imagePort}
 use Rattle.lists.proofs.Places.{getD-tabulate}
@@ -23,7 +24,7 @@ use Rattle.cells.specs.Codes.{stateOf, latchByte, latchesOf}
 use Rattle.cells.proofs.Laws.{written-self, written-cong, written-long}
 use Rattle.cells.proofs.Pass.{stage, pass-none, pass-more, pass-all}
 use Rattle.cells.specs.Writes.{withPortCells}
-use Rattle.image.specs.Load.{wordAt, portIn, portReads, tableIn}
+use Rattle.image.specs.Load.{portIn, portReads, tableIn}
 
 module _ (bytes : List ℕ) (at : ℕ) (e : portReads bytes at ≡ true) where
   pub state-code : codeOf (stateOf (getD bytes at 0)) ≡ getD bytes at 0

@@ -7,10 +7,11 @@ ghost use mathlib.Core.Path.{_≡_};
 ghost use mathlib.Core.Bool.{true};
 ghost use Prim.Native.Nat.{_+_, _<_};
 ghost use lib.ListN.{length, replicate};
+ghost use Rattle.lists.specs.Bytes.{wordAt};
 ghost use Rattle.sizes.specs.Sizes.{mostPorts};
 ghost use Rattle.cells.specs.Cells.{cellsOf, cellsLong};
 ghost use Rattle.cells.specs.Writes.{withPortCells, withCountCells};
-ghost use Rattle.image.specs.Load.{wordAt, countsIn, portIn, portReads, tableIn, reads, restores, cellsRestored};
+ghost use Rattle.image.specs.Load.{countsIn, portIn, portReads, tableIn, reads, restores, cellsRestored};
 
 fn word_at(bytes: &[u8], at: usize) -> u16
     requires { ⌜ at + 1 < length (now bytes) ⌝ }

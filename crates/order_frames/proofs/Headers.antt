@@ -9,10 +9,11 @@ use native.Mathlib.Omega.{arith}
 use lib.Dec.{eqb, ltb}
 use lib.ListN.{length, getD}
 use borrow.Author.Tests.{lt-leb, lt-ltb, le-ltb, eq-eqb, ne-eqb, eqb-true, ltb-false, not-false}
+use Rattle.lists.specs.Bytes.{wordAt}
 use Rattle.lists.specs.Bits.{one, field}
 use Rattle.lists.proofs.Bits.{field-low}
 use Rattle.lists.proofs.Tests.{not-ltb, fails-left, fails-right}
-use Rattle.header.specs.Header.{wordAt, typeAt, lengthAt, sizeAt, standsAt, fixedAt, isPower}
+use Rattle.header.specs.Header.{typeAt, lengthAt, sizeAt, standsAt, fixedAt, isPower}
 use Rattle.reader.specs.Read.{cut, exactlyOne, addedIn, formIn}
 use Rattle.walk.specs.Walk.{stepOf}
 use Rattle.writer.specs.Write.{badCodes}

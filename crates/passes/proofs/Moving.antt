@@ -24,7 +24,7 @@ use Rattle.settling.proofs.Claim.{settled-still}
 use Rattle.cells.specs.Cells.{cellsLong, portOf, written}
 use Rattle.cells.specs.Holds.{Holds}
 use Rattle.cells.proofs.Laws.{written-self, written-long, written-cong}
-use Rattle.cells.proofs.Pass.{stage, stage-done, stage-left, pass-none, pass-all, pass-port, pass-field}
+use Rattle.cells.proofs.Pass.{stage, stage-done, stage-left, pass-none, pass-all, pass-port, pass-field, pass-more, pass-kept}
 use Rattle.cells.specs.Writes.{withPortCells}
 use Rattle.block.specs.Digest.{digest}
 use Rattle.claims.specs.Claimed.{isSet}
@@ -52,6 +52,11 @@ module _ (n : ℕ) (g : ℕ → Port) (l : List ℕ) (few : n ≤ mostPorts) (lo
       pub come-class : getD m (152 + i) 0 ≡ getD l (152 + i) 0
       unfolding portOf
       come-class = pass-field n g (portOf l) l few (omega arith) i m e h 3 (omega arith)
+
+      -- the port at the place that is next is put back, or not
+      pub come-more : (changes : Bool) (x : Port) → (changes ≡ true → x ≡ g i) → (changes ≡ false → g i ≡ portOf l i) → cond changes (withPortCells i x m) m ≡ written n (stage (i + 1) g (portOf l)) l
+      come-more true x put left = pass-more n g (portOf l) l few (omega arith) i m e h x (put refl)
+      come-more false x put left = pass-kept n g (portOf l) l few (omega arith) i m e h (left refl)
 
       -- it settles
       pub come-settled : (r : ℕ) (kept : Bool) → g i ≡ settledAs r kept (portOf l i) .port

@@ -4,10 +4,11 @@ use mathlib.Core.Bool.{Bool, cond, _&&_, _||_, not}
 use mathlib.Core.List.{List, [], _∷_}
 use lib.Dec.{eqb, ltb}
 use lib.ListN.{length, getD}
+use Rattle.lists.specs.Bytes.{wordAt}
 use Rattle.lists.specs.Bits.{field}
 use Rattle.lists.specs.Ladder.{ladder}
 use Rattle.fields.specs.Fields.{badValues}
-use Rattle.header.specs.Header.{wordAt, lengthAt, sizeAt, isPower}
+use Rattle.header.specs.Header.{lengthAt, sizeAt, isPower}
 use Rattle.fields.specs.declared.Fields.{Fields}
 use Rattle.fields.specs.declared.Form.{Form}
 use Rattle.fields.specs.declared.Form.the-variants.{Short, Long}

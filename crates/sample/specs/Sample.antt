@@ -3,17 +3,14 @@ use Prim.Native.Nat.{ℕ, _+_, _*_, _/_}
 use mathlib.Core.Bool.{Bool, cond}
 use mathlib.Core.List.{List}
 use lib.Dec.{ltb}
-use lib.ListN.{length, getD}
+use lib.ListN.{length}
+use Rattle.lists.specs.Bytes.{wordAt}
 use Rattle.sizes.specs.Sizes.{sampleBytes}
 use Rattle.lists.specs.Bits.{bit, above}
 use Rattle.sample.specs.declared.Sample.{Sample}
 use Rattle.sample.specs.declared.Sampled.{Sampled}
 use Rattle.sample.specs.declared.Sampled.the-variants.{Is, Cut}
 use Rattle.sample.specs.declared.Flags.{Flags}
-
--- "big-endian 16-bit"
-unfoldable pub wordAt : List ℕ → ℕ → ℕ
-wordAt bytes at = 256 * getD bytes at 0 + getD bytes (at + 1) 0
 
 -- "V1, V2 (mV), I1, I2 (µA), C1, C2 (class currents, µA), flags."
 unfoldable pub sampleAt : List ℕ → ℕ → Sample

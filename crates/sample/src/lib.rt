@@ -3,7 +3,8 @@ use sizes::SAMPLE;
 ghost use mathlib.Core.Path.{_≡_};
 ghost use Prim.Native.Nat.{_+_, _<_};
 ghost use lib.ListN.{length};
-ghost use Rattle.sample.specs.Sample.{wordAt, sampleOf, reservedFlags, flagsOf};
+ghost use Rattle.lists.specs.Bytes.{wordAt};
+ghost use Rattle.sample.specs.Sample.{sampleOf, flagsOf};
 
 // Voltages in mV, currents in µA.
 pub struct Sample {
@@ -55,13 +56,6 @@ pub struct Flags {
     pub limiting: bool,
     pub overload: bool,
     pub load: bool,
-}
-
-// Document 01: flags "15:6 zero".
-pub fn reserved_flags(flags: u16) -> bool
-    ensures { λ r. ⌜ r ≡ reservedFlags flags ⌝ }
-{
-    64 <= flags
 }
 
 pub fn flags_of(flags: u16) -> Flags

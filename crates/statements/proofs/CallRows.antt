@@ -3,13 +3,14 @@
 use mathlib.Core.Path.{_≡_, refl}
 use mathlib.Core.Bool.{Bool}
 use mathlib.Core.List.{[], _∷_, map}
+use Rattle.lists.specs.Bytes.{wordAt}
 use Rattle.lists.specs.Bits.{field, above}
 use Rattle.lists.specs.Every.{someBelow}
 use Rattle.lists.specs.Entries.{some}
 use Rattle.lists.specs.Total.{total}
 use Rattle.power.specs.Power.{tenths, over, fits}
 use Rattle.class.specs.Class.{budgetOf, isDemand}
-use Rattle.sample.specs.Sample.{wordAt, sampleAt, reservedFlags}
+use Rattle.sample.specs.Sample.{sampleAt, reservedFlags}
 use Rattle.control.specs.Control.{refused}
 use Rattle.status.specs.Status.{noLatches, statusWord}
 use Rattle.port.specs.declared.form.State.{State}

@@ -1,11 +1,12 @@
 -- What is proved of specs/Limits.
 -- Assumes nothing.
 use mathlib.Core.Path.{refl}
+use Rattle.lists.specs.Bytes.{wordAt}
 use Rattle.lists.specs.Bits.{bit, field, above}
 use Rattle.lists.specs.Entries.{some}
 use Rattle.power.specs.Power.{supplyOf}
 use Rattle.class.specs.Class.{classOf, isFour, classOfTwo, budgetOf, isDemand}
-use Rattle.sample.specs.Sample.{wordAt, sampleAt, sampleOf, flagsOf, reservedFlags}
+use Rattle.sample.specs.Sample.{sampleAt, sampleOf, flagsOf, reservedFlags}
 use Rattle.signature.specs.Signature.{outside, byDifferences, signatureOf}
 use Rattle.control.specs.Control.{enableOf, pairOf, priorityOf, controlOf, refused}
 use Rattle.status.specs.Status.{statusWord}

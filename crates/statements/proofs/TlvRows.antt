@@ -3,9 +3,10 @@
 use Prim.Native.Nat.{ℕ}
 use mathlib.Core.Path.{_≡_, refl}
 use mathlib.Core.List.{List, map}
+use Rattle.lists.specs.Bytes.{wordAt}
 use Rattle.lists.specs.Bits.{field}
 use Rattle.fields.specs.Fields.{outside, badValues}
-use Rattle.header.specs.Header.{wordAt, typeAt, lengthAt, sizeAt, standsAt, fixedAt, isPower}
+use Rattle.header.specs.Header.{typeAt, lengthAt, sizeAt, standsAt, fixedAt, isPower}
 use Rattle.reader.specs.Read.{cut, exactlyOne, addedIn, formIn, fieldsIn, readOf}
 use Rattle.writer.specs.Write.{badCodes, bytesOf, writtenOf, roomAfter}
 use Rattle.reader.specs.declared.ReadAnswer.{ReadAnswer}

@@ -5,23 +5,23 @@ use mathlib.Core.Path.{_≡_, refl, sym, _∙_, subst}
 use mathlib.Core.Bool.{Bool}
 use mathlib.Core.List.{List}
 use lib.ListN.{take, drop}
+use Rattle.lists.specs.Bytes.{wordAt}
 use Rattle.sizes.specs.Sizes.{mostPorts}
 use Rattle.lists.specs.Places.{tabulate}
 use Rattle.power.specs.Power.{atMost, same, supplyOf, plus, join as joinSums, fits}
 use Rattle.power.specs.declared.Power.{Power}
 use Rattle.power.specs.declared.Sum.{Sum}
 use Rattle.power.specs.declared.Supply.{Supply}
-use Rattle.class.specs.Class.{classOf, classOfTwo, budgetOf, isDemand}
-use Rattle.sample.specs.Sample.{sampleOf, reservedFlags, flagsOf}
+use Rattle.class.specs.Class.{classOf, classOfTwo, budgetOf}
+use Rattle.sample.specs.Sample.{sampleOf, flagsOf}
 use Rattle.signature.specs.Signature.{signatureOf}
 use Rattle.class.specs.declared.Class.{Class}
 use Rattle.sample.specs.declared.Flags.{Flags}
 use Rattle.sample.specs.declared.Sampled.{Sampled}
 use Rattle.signature.specs.declared.Signature.{Signature}
-use Rattle.control.specs.Control.{enableOf, pairOf, priorityOf, controlOf, wordOf, refused}
+use Rattle.control.specs.Control.{enableOf, pairOf, priorityOf, refused}
 use Rattle.enable.specs.Enable.{isOff, isOn, isForced}
 use Rattle.status.specs.Status.{join as joinLatches, statusWord}
-use Rattle.control.specs.declared.Control.{Control}
 use Rattle.control.specs.declared.Enable.{Enable}
 use Rattle.control.specs.declared.Pair.{Pair}
 use Rattle.control.specs.declared.Priority.{Priority}
@@ -53,7 +53,7 @@ use Rattle.tally.specs.Tally.{drawnIn, closedIn, sidesIn}
 use Rattle.passes.specs.OnCells.{tickOn}
 use Rattle.image.specs.Image.{imageable, saves, roomAfter as imageAfter}
 use Rattle.image.specs.Load.{restores, cellsRestored}
-use Rattle.header.specs.Header.{wordAt, typeAt, isPower}
+use Rattle.header.specs.Header.{typeAt, isPower}
 use Rattle.fields.specs.Fields.{badValues}
 use Rattle.reader.specs.Read.{readOf}
 use Rattle.search.specs.Search.{searchOf}
@@ -91,16 +91,12 @@ unique =
       class-class-of = λ current. one Class (classOf current);
       class-class-of-two = λ c1 c2. one Class (classOfTwo c1 c2);
       class-budget = λ c. one Power (budgetOf c);
-      class-is-demand = λ d. one Bool (isDemand d);
       sample-sample-of = λ block p. one Sampled (sampleOf block p);
-      sample-reserved-flags = λ word. one Bool (reservedFlags word);
       sample-flags-of = λ word. one Flags (flagsOf word);
       signature-signature-of = λ v1 v2 i1 i2. one Signature (signatureOf v1 v2 i1 i2);
       control-enable-of = λ word. one Enable (enableOf word);
       control-pair-of = λ word. one Pair (pairOf word);
       control-priority-of = λ word. one Priority (priorityOf word);
-      control-control-of = λ word. one Control (controlOf word);
-      control-word-of = λ c. one ℕ (wordOf c);
       control-refused = λ word. one Bool (refused word);
       enable-is-off = λ enable. one Bool (isOff enable);
       enable-is-on = λ enable. one Bool (isOn enable);

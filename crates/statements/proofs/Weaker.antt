@@ -5,6 +5,7 @@ use mathlib.Core.Path.{_≡_, refl, sym, _∙_, subst}
 use mathlib.Core.Bool.{true, false, false≢true}
 use mathlib.Core.List.{List, _∷_}
 use native.Mathlib.Omega.{arith}
+use Rattle.lists.specs.Bytes.{wordAt}
 use Rattle.lists.specs.Bits.{bit, above, field}
 use Rattle.lists.specs.Every.{someBelow}
 use Rattle.lists.specs.Places.{tabulate}
@@ -12,7 +13,7 @@ use Rattle.lists.specs.Entries.{some}
 use Rattle.lists.specs.Total.{total}
 use Rattle.power.specs.Power.{over}
 use Rattle.class.specs.Class.{classOf, isFour, classOfTwo, budgetOf, isDemand}
-use Rattle.sample.specs.Sample.{wordAt, sampleAt, reservedFlags, flagsOf}
+use Rattle.sample.specs.Sample.{sampleAt, reservedFlags, flagsOf}
 use Rattle.sample.specs.declared.Sample.{Sample}
 use Rattle.signature.specs.Signature.{outside, byDifferences, signatureOf}
 use Rattle.control.specs.Control.{enableOf, pairOf, priorityOf, refused}

@@ -7,13 +7,14 @@ use mathlib.Core.List.{List}
 use native.Mathlib.Omega.{arith}
 use lib.Count.{ones}
 use lib.Dec.{ltb}
+use Rattle.lists.specs.Bytes.{wordAt}
 use Rattle.lists.specs.Bits.{bit, above, field}
 use Rattle.lists.specs.Every.{someBelow}
 use Rattle.lists.specs.Entries.{some}
 use Rattle.lists.specs.Total.{total}
 use Rattle.power.specs.Power.{over}
 use Rattle.class.specs.Class.{classOf, isFour, classOfTwo, budgetOf, isDemand}
-use Rattle.sample.specs.Sample.{wordAt, sampleAt, reservedFlags, flagsOf}
+use Rattle.sample.specs.Sample.{sampleAt, reservedFlags, flagsOf}
 use Rattle.control.specs.Control.{enableOf, pairOf, priorityOf, refused}
 use Rattle.port.specs.Entry.{up, enter}
 use Rattle.diagram.specs.Rules.{classed, classifying}

@@ -7,24 +7,24 @@ use mathlib.Core.Path.{_≡_}
 use mathlib.Core.Bool.{Bool}
 use mathlib.Core.List.{List}
 use lib.ListN.{take, drop}
+use Rattle.lists.specs.Bytes.{wordAt}
 use Rattle.sizes.specs.Sizes.{mostPorts}
 use Rattle.lists.specs.Places.{tabulate}
 use Rattle.power.specs.Power.{atMost, same, supplyOf, plus, join as joinSums, fits}
 use Rattle.power.specs.declared.Power.{Power}
 use Rattle.power.specs.declared.Sum.{Sum}
 use Rattle.power.specs.declared.Supply.{Supply}
-use Rattle.class.specs.Class.{classOf, classOfTwo, budgetOf, isDemand}
-use Rattle.sample.specs.Sample.{sampleOf, reservedFlags, flagsOf}
+use Rattle.class.specs.Class.{classOf, classOfTwo, budgetOf}
+use Rattle.sample.specs.Sample.{sampleOf, flagsOf}
 use Rattle.signature.specs.Signature.{signatureOf}
 use Rattle.class.specs.declared.Class.{Class}
 use Rattle.sample.specs.declared.Flags.{Flags}
 use Rattle.sample.specs.declared.Sample.{Sample}
 use Rattle.sample.specs.declared.Sampled.{Sampled}
 use Rattle.signature.specs.declared.Signature.{Signature}
-use Rattle.control.specs.Control.{enableOf, pairOf, priorityOf, controlOf, wordOf, refused}
+use Rattle.control.specs.Control.{enableOf, pairOf, priorityOf, refused}
 use Rattle.enable.specs.Enable.{isOff, isOn, isForced}
 use Rattle.status.specs.Status.{join as joinLatches, statusWord}
-use Rattle.control.specs.declared.Control.{Control}
 use Rattle.control.specs.declared.Enable.{Enable}
 use Rattle.control.specs.declared.Pair.{Pair}
 use Rattle.control.specs.declared.Priority.{Priority}
@@ -57,7 +57,7 @@ use Rattle.tally.specs.Tally.{drawnIn, closedIn, sidesIn}
 use Rattle.passes.specs.OnCells.{tickOn}
 use Rattle.image.specs.Image.{imageable, saves, roomAfter as imageAfter}
 use Rattle.image.specs.Load.{restores, cellsRestored}
-use Rattle.header.specs.Header.{wordAt, typeAt, lengthAt, isPower}
+use Rattle.header.specs.Header.{typeAt, lengthAt, isPower}
 use Rattle.fields.specs.Fields.{badValues}
 use Rattle.reader.specs.Read.{readOf}
 use Rattle.search.specs.Search.{searchOf}
@@ -98,16 +98,12 @@ pub record Unique : Type 0 where
   pub class-class-of : (current : ℕ) → One Class (λ r. r ≡ classOf current)
   pub class-class-of-two : (c1 c2 : ℕ) → One Class (λ r. r ≡ classOfTwo c1 c2)
   pub class-budget : (c : ℕ) → One Power (λ r. r ≡ budgetOf c)
-  pub class-is-demand : (d : Power) → One Bool (λ r. r ≡ isDemand d)
   pub sample-sample-of : (block : List ℕ) (p : ℕ) → One Sampled (λ r. r ≡ sampleOf block p)
-  pub sample-reserved-flags : (word : ℕ) → One Bool (λ r. r ≡ reservedFlags word)
   pub sample-flags-of : (word : ℕ) → One Flags (λ r. r ≡ flagsOf word)
   pub signature-signature-of : (v1 v2 i1 i2 : ℕ) → One Signature (λ r. r ≡ signatureOf v1 v2 i1 i2)
   pub control-enable-of : (word : ℕ) → One Enable (λ r. r ≡ enableOf word)
   pub control-pair-of : (word : ℕ) → One Pair (λ r. r ≡ pairOf word)
   pub control-priority-of : (word : ℕ) → One Priority (λ r. r ≡ priorityOf word)
-  pub control-control-of : (word : ℕ) → One Control (λ r. r ≡ controlOf word)
-  pub control-word-of : (c : Control) → One ℕ (λ r. r ≡ wordOf c)
   pub control-refused : (word : ℕ) → One Bool (λ r. r ≡ refused word)
   pub enable-is-off : (enable : Enable) → One Bool (λ r. r ≡ isOff enable)
   pub enable-is-on : (enable : Enable) → One Bool (λ r. r ≡ isOn enable)

@@ -8,11 +8,12 @@ use native.Mathlib.Omega.{arith}
 use lib.Dec.{ltb, eqb}
 use lib.ListN.{length, getD}
 use borrow.Author.Tests.{ltb-true, le-ltb, le-leb, lt-leb, eq-eqb, eqb-true, not-true}
+use Rattle.lists.specs.Bytes.{wordAt}
 use Rattle.lists.specs.Bits.{above}
 use Rattle.lists.specs.Every.{someBelow}
 use Rattle.lists.proofs.Every.{every-at, every-of, nowhere}
 use Rattle.lists.proofs.Tests.{and-left, and-right}
-use Rattle.sample.specs.Sample.{wordAt, sampleAt, reservedFlags}
+use Rattle.sample.specs.Sample.{sampleAt, reservedFlags}
 use Rattle.table.specs.Drawn.{closedAt}
 use Rattle.table.proofs.Laws.{well-count}
 use Rattle.table.specs.WellMade.{illMade, wellMade}

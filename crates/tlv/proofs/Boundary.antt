@@ -10,9 +10,10 @@ use lib.Dec.{eqb}
 use lib.ListN.{length, getD, take, drop, length-drop}
 use lib.Seq.{getD-take, getD-drop, length-take-le}
 use borrow.Author.Tests.{leb-true}
+use Rattle.lists.specs.Bytes.{wordAt}
 use Rattle.lists.proofs.Ladder.{ladder-value}
 use Rattle.lists.proofs.Tests.{and-left, and-right}
-use Rattle.header.specs.Header.{wordAt, typeAt, lengthAt, sizeAt, fixedAt, isPower}
+use Rattle.header.specs.Header.{typeAt, lengthAt, sizeAt, fixedAt, isPower}
 use Rattle.tlv.specs.Laws.{Boundary, start, next, PowerAt, OnePower, FoundPower, TakenPower}
 use Rattle.search.specs.Search.{powers, powersIn, searchRefusals, partAt, searchOf}
 use Rattle.walk.specs.Walk.{stepOf, Walk, onward, walk, walkFrom}

@@ -10,13 +10,14 @@ use native.Mathlib.Omega.{arith}
 use lib.Dec.{eqb, leb}
 use lib.ListN.{length, getD, drop}
 use borrow.Author.Tests.{eqb-true, eq-eqb, ne-eqb, ltb-true, le-ltb, not-false}
+use Rattle.lists.specs.Bytes.{wordAt}
 use Rattle.lists.specs.Bits.{field}
 use Rattle.lists.proofs.Ladder.{ladder-value}
 use Rattle.lists.specs.Entries.{all}
 use Rattle.lists.proofs.Entries.{entry-or}
 use Rattle.lists.proofs.Tests.{and-left, and-right}
 use Rattle.fields.specs.Fields.{badValues}
-use Rattle.header.specs.Header.{wordAt, typeAt, lengthAt, fixedAt, isPower}
+use Rattle.header.specs.Header.{typeAt, lengthAt, fixedAt, isPower}
 use Rattle.tlv.specs.Laws.{isByte, ReadRewrites}
 use Rattle.reader.specs.Read.{exactlyOne, addedIn, formIn, fieldsIn, readRefusals, readOf}
 use Rattle.writer.specs.Write.{badCodes, bytesOf}

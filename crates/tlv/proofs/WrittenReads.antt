@@ -7,10 +7,11 @@ use native.Mathlib.Nat.{div-one}
 use native.Mathlib.Omega.{arith}
 use lib.ListN.{length, take, drop}
 use lib.Seq.{take-at}
+use Rattle.lists.specs.Bytes.{wordAt}
 use Rattle.lists.specs.Bits.{field}
 use Rattle.lists.proofs.Ladder.{ladder-value}
 use Rattle.fields.specs.Fields.{badValues}
-use Rattle.header.specs.Header.{wordAt, typeAt, lengthAt, sizeAt, standsAt, fixedAt, isPower}
+use Rattle.header.specs.Header.{typeAt, lengthAt, sizeAt, standsAt, fixedAt, isPower}
 use Rattle.tlv.specs.Laws.{WrittenReads}
 use Rattle.reader.specs.Read.{cut, exactlyOne, addedIn, formIn, fieldsIn, readOf}
 use Rattle.writer.specs.Write.{badCodes, bytesOf, writeRefusals, writtenOf, roomAfter, left}

@@ -3,8 +3,9 @@
 use Prim.Native.Nat.{ℕ, _+_, _*_}
 use native.Mathlib.Omega.{arith}
 use borrow.Author.Needs.{needs}
+use Rattle.lists.specs.Bytes.{wordAt}
 use Rattle.sizes.specs.Sizes.{sampleBytes}
-use Rattle.sample.specs.Sample.{wordAt, sampleAt}
+use Rattle.sample.specs.Sample.{sampleAt}
 use Rattle.block.specs.Flags.{flagsOfPort}
 use Rattle.block.proofs.flags_at.Statement.{statement}
 use Rattle.block.proofs.flags_at.Tie as tie

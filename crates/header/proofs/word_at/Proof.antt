@@ -5,7 +5,7 @@ use Prim.Native.Nat.{_+_}
 use native.Mathlib.Omega.{arith}
 use denote.Ref.{now}
 use borrow.Author.Needs.{needs}
-use Rattle.header.specs.Header.{wordAt}
+use Rattle.lists.specs.Bytes.{wordAt}
 use Rattle.header.proofs.Past.{none, half}
 use Rattle.header.proofs.word_at.Statement.{statement}
 use Rattle.header.proofs.word_at.Tie as tie

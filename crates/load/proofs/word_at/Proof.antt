@@ -3,7 +3,7 @@
 use Prim.Native.Nat.{_+_}
 use native.Mathlib.Omega.{arith}
 use borrow.Author.Needs.{needs}
-use Rattle.image.specs.Load.{wordAt}
+use Rattle.lists.specs.Bytes.{wordAt}
 use Rattle.load.proofs.word_at.Statement.{statement}
 use Rattle.load.proofs.word_at.Tie as tie
 

@@ -1,9 +1,9 @@
 -- `word_at` is `wordAt`, and a number of 16 bits. Assumes nothing.
 use mathlib.Core.Path.{ap₂}
 use Prim.Native.Nat.{ℕ, _+_, _*_}
-use Rattle.header.specs.Header.{wordAt}
 use borrow.Author.Needs.{needs}
 use native.Mathlib.Omega.{arith}
+use Rattle.lists.specs.Bytes.{wordAt}
 use Rattle.order_frames.proofs.word_at.Statement.{statement}
 use Rattle.order_frames.proofs.word_at.Tie as tie
 

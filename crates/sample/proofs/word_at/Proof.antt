@@ -3,7 +3,7 @@
 use Prim.Native.Nat.{_+_}
 use native.Mathlib.Omega.{arith}
 use borrow.Author.Needs.{needs}
-use Rattle.sample.specs.Sample.{wordAt}
+use Rattle.lists.specs.Bytes.{wordAt}
 use Rattle.sample.proofs.word_at.Statement.{statement}
 use Rattle.sample.proofs.word_at.Tie as tie
 

@@ -1,6 +1,6 @@
 -- `word_at` is its two bytes. Assumes nothing.
 use borrow.Author.Needs.{needs}
-use Rattle.sample.specs.Sample.{wordAt}
+use Rattle.lists.specs.Bytes.{wordAt}
 use Rattle.history.proofs.bytes.word_at.Statement.{statement}
 use Rattle.history.proofs.bytes.word_at.Tie as tie
 

@@ -6,9 +6,10 @@ use Prim.Native.Nat.{ℕ, _+_, _*_, _-_, _≤_}
 use native.Mathlib.Nat.{le-antisymm}
 use denote.Ref.{now}
 use lib.Dec.{leb}
+use Rattle.lists.specs.Bytes.{wordAt}
 use Rattle.lists.specs.Bits.{above}
 use Rattle.lists.specs.Every.{someBelow}
-use Rattle.sample.specs.Sample.{wordAt, sampleAt, reservedFlags}
+use Rattle.sample.specs.Sample.{sampleAt, reservedFlags}
 use Rattle.order.proofs.Order.{some-next}
 use borrow.Author.Needs.{needs}
 use native.Mathlib.Omega.{arith}
