@@ -28,7 +28,7 @@ use Rattle.statements.proofs.Reached.{Stopped, Ran, tick-told, reached-well}
 use Rattle.history.specs.Decode.{callsOf}
 use Rattle.history.specs.Lent.{cellsReached}
 use Rattle.history.proofs.LentLaws.{cells-reached}
-use Rattle.history.specs.MarkOf.{markOf}
+use Rattle.marks.specs.Mark.{markOf}
 use Rattle.history.proofs.MarkLaws.{quiet, marks-reached}
 use Rattle.history.proofs.Plain.{plain-tick}
 use Rattle.history.proofs.Spelled.{Fits, OfBytes, All, spelled, turned, spelled-back, spelled-bytes, turned-all}

@@ -2,7 +2,6 @@ pub mod EveryHistory
 pub mod LentLaws
 pub mod MarkLaws
 pub mod Plain
-pub mod Readings
 pub mod Running
 pub mod Spelled
 pub mod States

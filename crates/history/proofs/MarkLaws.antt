@@ -1,14 +1,12 @@
--- What is proved of specs/MarkLaws.
+-- What is proved of specs/Marks: the marks that a history leaves say what each port has shown.
 -- Assumes nothing.
 use Prim.Native.Nat.{ℕ, _+_, _*_, _≤_, _<_}
 use mathlib.Core.Path.{_≡_, refl, sym, _∙_, ap}
 use mathlib.Core.Bool.{Bool, true, false, cond}
 use mathlib.Core.List.{List, [], _∷_}
 use native.Mathlib.Omega.{arith}
-use lib.Dec.{eqb}
 use lib.ListN.{getD, getD-replicate}
 use Rattle.lists.proofs.Places.{getD-tabulate}
-use Rattle.lists.proofs.Tests.{choice-on}
 use Rattle.sample.specs.Sample.{sampleAt}
 use Rattle.port.specs.States.{isIdle}
 use Rattle.port.specs.declared.form.Port.{Port}
@@ -16,35 +14,14 @@ use Rattle.table.specs.Parts.{noPort, portAt}
 use Rattle.table.specs.declared.form.Table.{Table}
 use Rattle.table.specs.declared.form.Ticked.{Ticked}
 use Rattle.replies.specs.Calls.{coldPort, coldTable, coldStart}
-use Rattle.statements.specs.History.{Call, control, status, requested, ticked, after, reached, accepted, showsSignature, givesClass, Shown, nothing, signature, both, seen, adds, shown}
+use Rattle.statements.specs.History.{Call, control, status, requested, ticked, after, reached, accepted, Shown, nothing, both, seen, adds, shown}
 use Rattle.statements.proofs.Reached.{cold-table}
 use Rattle.history.specs.Lent.{ranOn, cellsReached}
 use Rattle.history.proofs.LentLaws.{cells-reached, tick-reached}
 use Rattle.history.proofs.States.{idle-cell}
-use Rattle.history.specs.Marks.{seenMark, notedMark, notedAll, blockOf, marksReached}
-use Rattle.history.specs.MarkOf.{markOf}
-
--- ---- one call
-
-seen-mark : (block : List ℕ) (p : ℕ) (x : Shown) → seenMark block p (markOf false x) ≡ markOf false (seen (sampleAt block (14 * p)) x)
-unfolding seenMark seen
-seen-mark block p nothing = choice-on (λ (z : Shown). cond (showsSignature (sampleAt block (14 * p))) 2 1 ≡ markOf false z) (showsSignature (sampleAt block (14 * p))) signature nothing (λ e. simp e) (λ e. simp e)
-seen-mark block p signature = choice-on (λ (z : Shown). cond (givesClass (sampleAt block (14 * p))) 3 2 ≡ markOf false z) (givesClass (sampleAt block (14 * p))) both signature (λ e. simp e) (λ e. simp e)
-seen-mark block p both = refl
-
--- the mark after a call, by whether the port stood in IDLE before it, stands there after it, and the call is a tick that runs
-note-mark : (was is ran : Bool) (code : ℕ) (block : List ℕ) (p : ℕ) (x : Shown) → (was ≡ true → x ≡ nothing) → eqb code 1 ≡ is
-    → notedMark code ran block p (markOf was x) ≡ markOf is (cond is nothing (cond ran (cond was x (seen (sampleAt block (14 * p)) x)) x))
-unfolding notedMark
-note-mark was true ran code block p x q e = simp e
-note-mark true false true code block p x q e = simp e (ap (markOf false) (sym (q refl)))
-note-mark true false false code block p x q e = simp e (ap (markOf false) (sym (q refl)))
-note-mark false false true code block p nothing q e = simp e (seen-mark block p nothing)
-note-mark false false true code block p signature q e = simp e (seen-mark block p signature)
-note-mark false false true code block p both q e = simp e (seen-mark block p both)
-note-mark false false false code block p nothing q e = simp e
-note-mark false false false code block p signature q e = simp e
-note-mark false false false code block p both q e = simp e
+use Rattle.marks.specs.Mark.{notedMark, markOf}
+use Rattle.marks.proofs.Mark.{note-mark}
+use Rattle.history.specs.Marks.{notedAll, blockOf, marksReached}
 
 never : (x : Shown) → x ≡ nothing → x ≡ both → ⊥
 never x e f = let z : _≡_ {A = ℕ} 0 1 = cc in omega arith

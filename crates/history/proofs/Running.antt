@@ -14,7 +14,8 @@ use Rattle.lists.proofs.Tests.{choice}
 use Rattle.statements.specs.History.{Call, control, status, requested, ticked}
 use Rattle.history.specs.Decode.{ofWords, numberAt, callOf, blockLong, firstCall, callsFrom, callsOf}
 use Rattle.history.specs.Lent.{cellsAfter, ranOn, cellsStarted, cellsReached}
-use Rattle.history.specs.Marks.{notedMark, notedAll, blockOf, marksReached}
+use Rattle.marks.specs.Mark.{notedMark}
+use Rattle.history.specs.Marks.{notedAll, blockOf, marksReached}
 
 -- ---- numbers further on
 

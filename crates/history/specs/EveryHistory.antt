@@ -12,7 +12,7 @@ use Rattle.interface.specs.Laws.{Are}
 use Rattle.statements.specs.History.{Call, reached, shown}
 use Rattle.history.specs.Decode.{callsOf}
 use Rattle.history.specs.Lent.{cellsReached}
-use Rattle.history.specs.MarkOf.{markOf}
+use Rattle.marks.specs.Mark.{markOf}
 use Rattle.history.specs.Marks.{marksReached}
 use Rattle.history.specs.Spelled.{Bytes}
 

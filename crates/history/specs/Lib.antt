@@ -1,6 +1,5 @@
 pub mod Decode
 pub mod EveryHistory
 pub mod Lent
-pub mod MarkOf
 pub mod Marks
 pub mod Spelled

@@ -3,13 +3,14 @@ mod bytes;
 mod shown;
 
 use crate::bytes::number_at;
-use crate::bytes::word_at;
 use crate::shown::note;
 use ipaqsuni::tables::ipaqsuni_cold_start;
 use ipaqsuni::tables::ipaqsuni_read_status;
 use ipaqsuni::tables::ipaqsuni_request;
 use ipaqsuni::tables::ipaqsuni_tick;
 use ipaqsuni::tables::ipaqsuni_write_control;
+use marks::NOTHING;
+use marks::bytes::word_at;
 ghost use mathlib.Core.Path.{_≡_};
 ghost use Prim.Native.Nat.{_+_, _-_, _≤_, min};
 ghost use Rattle.cells.specs.Lent.{cellsTicked};
@@ -18,15 +19,6 @@ ghost use Rattle.statements.specs.History.{ticked};
 ghost use Rattle.history.specs.Decode.{callOf, callsOf};
 ghost use Rattle.history.specs.Lent.{answerOf, cellsAfter, ranOn, cellsReached};
 ghost use Rattle.history.specs.Marks.{notedAll, marksReached};
-
-// A port's mark: it stands in IDLE; or what it has shown since it last did: nothing, a valid signature, or that and later a class.
-pub const IN_IDLE: u8 = 0;
-
-pub const NOTHING: u8 = 1;
-
-pub const SIGNATURE: u8 = 2;
-
-pub const BOTH: u8 = 3;
 
 // The table that calls reached, and each port's mark.
 pub struct Reached {

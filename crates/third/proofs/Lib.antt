@@ -1,4 +1,2 @@
-pub mod Asks
-pub mod Means
 pub mod Third
 pub mod Unique

@@ -38,9 +38,9 @@ use Rattle.history.proofs.MarkLaws.{both-mark}
 use Rattle.history.specs.Marks.{notedAll, marksReached}
 use Rattle.history.proofs.States.{test-cell}
 use Rattle.history.specs.declared.TickAnswer.{TickAnswer}
-use Rattle.third.specs.Answers.{closedIn, noneLostIn, demandsIn, allShownIn, soundIn}
-use Rattle.third.specs.Asks.{flagsClear, Asked}
-use Rattle.third.proofs.Means.{sum-says}
+use Rattle.third_tests.specs.Answers.{closedIn, noneLostIn, demandsIn, allShownIn, soundIn}
+use Rattle.third_tests.specs.Asks.{flagsClear, Asked}
+use Rattle.third_tests.proofs.Means.{sum-says}
 
 -- ---- a tick that the arguments ask for is accepted
 

@@ -1,4 +1,1 @@
-pub mod Answers
-pub mod Asks
-pub mod Means
 pub mod Unique

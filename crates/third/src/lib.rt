@@ -2,19 +2,16 @@
 // range; let the tick be accepted. Every port closed under the smaller figure is closed under the greater. Under either, the closed
 // ports' demands add up to no more than that figure, and no port outside the forced test state is closed unless, since it last stood in
 // IDLE, it showed a valid signature and gave a class."
-mod answers;
-mod asked;
-
-use crate::answers::none_lost;
-use crate::answers::sound;
-use crate::asked::asked;
 use history::run;
 use history::tick_from;
+use third_tests::answers::none_lost;
+use third_tests::answers::sound;
+use third_tests::asked::asked;
 use verdict::Verdict;
 ghost use mathlib.Core.Path.{_≡_};
 ghost use mathlib.Core.Bool.{cond};
 ghost use Rattle.verdict.specs.declared.Verdict.the-variants.{Held, NotAsked};
-ghost use Rattle.third.specs.Asks.{asks};
+ghost use Rattle.third_tests.specs.Asks.{asks};
 
 // The history is any bytes. The C functions run it from a cold start; then the tick, theirs too, is made twice from the table that was
 // reached, once on each figure. Ports and figures are as wide as these functions take them.

@@ -5,9 +5,9 @@ use borrow.Author.Needs.{needs}
 use borrow.Author.Tests.{not-true, not-false}
 use denote.Ref.{now}
 use Rattle.lists.proofs.Tests.{not-both}
-use Rattle.third.specs.Answers.{noneLostIn}
-use Rattle.third.specs.Asks.{asks, Asked}
-use Rattle.third.proofs.Asks.{asked-so}
+use Rattle.third_tests.specs.Answers.{noneLostIn}
+use Rattle.third_tests.specs.Asks.{asks, Asked}
+use Rattle.third_tests.proofs.Asks.{asked-so}
 use Rattle.third.proofs.Third.{small, great, loses-none, answer-in, sound-in}
 use Rattle.third.proofs.third_demand.Statement.{statement}
 use Rattle.third.proofs.third_demand.Tie as tie

@@ -4,10 +4,12 @@ use Prim.Native.Nat.{_+_, _-_, _≤_}
 use native.Mathlib.Nat.{le-antisymm, le-refl}
 use native.Mathlib.Omega.{arith}
 use lib.ListN.{getD}
+use borrow.Author.Needs.{needs}
 use denote.Ref.{now}
 use Rattle.lists.specs.Places.{Filled}
 use Rattle.lists.proofs.Places.{filled-none, filled-more, filled-all}
-use Rattle.history.specs.Marks.{notedMark, notedAll}
+use Rattle.marks.specs.Mark.{notedMark}
+use Rattle.history.specs.Marks.{notedAll}
 use Rattle.history.proofs.shown.note.Statement.{statement}
 use Rattle.history.proofs.shown.note.Tie as tie
 
@@ -28,8 +30,9 @@ note-spec =
     (λ c. omega arith)
     (λ c. omega arith)
     (λ c. omega arith)
+    (λ c. omega arith)
     (λ c. omega (arith, c .before .before .before .loop .inv .1 .long))
-    (λ c κs. omega arith)
+    (λ c κs. search needs)
     (λ c. omega (arith, c .before .before .before .before .loop .inv .1 .long))
     (λ c. omega arith)
     (λ c. omega arith)

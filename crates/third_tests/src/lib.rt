@@ -1,0 +1,3 @@
+// What the third demand looks at: its arguments, and what a tick answered.
+pub mod answers;
+pub mod asked;
