@@ -11,7 +11,7 @@ ghost use Prim.Native.Nat.{_+_, _<_};
 ghost use lib.ListN.{length, getD};
 ghost use Rattle.sizes.specs.Sizes.{mostPorts};
 ghost use Rattle.cells.specs.Cells.{countsOf, portOf, cellsLong};
-ghost use Rattle.cells.specs.Writes.{withPortCells};
+ghost use Rattle.cells.specs.Writes.{withPortCells, withCountCells};
 
 fn counts_at(cells: &[u16], p: usize) -> Counts
     requires { ⌜ (length (now cells) ≡ cellsLong) × (p < mostPorts) ⌝ }
@@ -46,6 +46,19 @@ pub fn port_at(cells: &[u16], p: usize) -> Port
     }
 }
 
+fn put_counts(cells: &mut [u16], p: usize, counts: Counts)
+    requires { ⌜ (length (now cells) ≡ cellsLong) × (p < mostPorts) ⌝ }
+    ensures { λ _. ⌜ now (cells .exit) ≡ withCountCells p counts (now (cells .entry)) ⌝ }
+{
+    cells[248 + p] = counts.detection;
+    cells[296 + p] = counts.backoff;
+    cells[344 + p] = counts.error_delay;
+    cells[392 + p] = counts.power_on;
+    cells[440 + p] = counts.limiting;
+    cells[488 + p] = counts.overload;
+    cells[536 + p] = counts.no_load;
+}
+
 pub fn put_port(cells: &mut [u16], p: usize, port: Port)
     requires { ⌜ (length (now cells) ≡ cellsLong) × (p < mostPorts) ⌝ }
     ensures { λ _. ⌜ now (cells .exit) ≡ withPortCells p port (now (cells .entry)) ⌝ }
@@ -58,11 +71,5 @@ pub fn put_port(cells: &mut [u16], p: usize, port: Port)
     cells[104 + p] = port.demand.0;
     cells[152 + p] = port.class as u16;
     cells[200 + p] = latch_cell(latches);
-    cells[248 + p] = counts.detection;
-    cells[296 + p] = counts.backoff;
-    cells[344 + p] = counts.error_delay;
-    cells[392 + p] = counts.power_on;
-    cells[440 + p] = counts.limiting;
-    cells[488 + p] = counts.overload;
-    cells[536 + p] = counts.no_load;
+    put_counts(cells, p, counts);
 }
