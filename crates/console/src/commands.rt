@@ -57,7 +57,7 @@ fn request(line: &[u8], cells: &mut [u16], out: &mut [u8], at: usize) -> usize {
     if !a.ok {
         return bad_line(out, at);
     }
-    let answer = calls::request(cells, a.n[0], a.n[1]);
+    let answer = request::request(cells, a.n[0], a.n[1]);
     crate::answers::answer(out, at, answer)
 }
 

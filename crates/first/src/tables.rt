@@ -2,7 +2,6 @@
 // the core never sees. It is asked wherever the two are the same, whatever they hold and however many they are.
 use calls::cold_start;
 use calls::read_status;
-use calls::request;
 use calls::write_control;
 use judge::answered;
 use judge::refused;
@@ -12,6 +11,7 @@ use order::request::request_number;
 use order::start::start_number;
 use order::status_read::status_number;
 use order::ticking::tick_number;
+use request::request;
 use table::form::Answer;
 use table::form::Closed;
 use table::form::Status;

@@ -64,7 +64,7 @@ pub extern "C" fn ipaqsuni_request(cells: &mut [u16], port: u32, value: u32) -> 
     ensures { λ r. ⌜ r ≡ answerNumber (requestOn (now (cells .entry)) port value .answer) ⌝ }
     ensures { λ _. ⌜ now (cells .exit) ≡ cellsTold (requestOn (now (cells .entry)) port value) (now (cells .entry)) ⌝ }
 {
-    number_of(calls::request(cells, port as u64, value as u64))
+    number_of(request::request(cells, port as u64, value as u64))
 }
 
 #[no_mangle]

@@ -131,7 +131,7 @@ pub record Unique : Type 0 where
   pub calls-cold-start : (cells : List ℕ) (ports : ℕ) → OneWith Answer (List ℕ) (λ r cells'. (r ≡ startOn cells ports .answer) × (cells' ≡ cellsCold (startOn cells ports) cells))
   pub calls-write-control : (cells : List ℕ) (port word : ℕ) → OneWith Answer (List ℕ) (λ r cells'. (r ≡ controlOn cells port word .answer) × (cells' ≡ cellsTold (controlOn cells port word) cells))
   pub calls-read-status : (cells : List ℕ) (port : ℕ) → OneWith Status (List ℕ) (λ r cells'. (r ≡ statusOn cells port .answer) × (cells' ≡ cellsRead (statusOn cells port) cells))
-  pub calls-request : (cells : List ℕ) (port value : ℕ) → OneWith Answer (List ℕ) (λ r cells'. (r ≡ requestOn cells port value .answer) × (cells' ≡ cellsTold (requestOn cells port value) cells))
+  pub request-request : (cells : List ℕ) (port value : ℕ) → OneWith Answer (List ℕ) (λ r cells'. (r ≡ requestOn cells port value .answer) × (cells' ≡ cellsTold (requestOn cells port value) cells))
   pub block-flags-into : (block : List ℕ) (n : ℕ) (lane : List ℕ) → OneWith Bool (List ℕ) (λ r lane'. (r ≡ flagsClean n block lane) × (lane' ≡ flagsLaid n block lane))
   pub block-digest-digest-of : (sample : Sample) → One Reading (λ r. r ≡ digest sample)
   pub tally-drawn : (cells : List ℕ) (n : ℕ) → One ℕ (λ r. r ≡ drawnIn n cells)

@@ -10,8 +10,8 @@ use Rattle.table.proofs.Laws.{over-is}
 use Rattle.cells.specs.Cells.{supplyCell, tableOf}
 use Rattle.replies.specs.Calls.{overSupply}
 use Rattle.replies.proofs.OnLaws.{demand-at}
-use Rattle.calls.proofs.too_much.Statement.{statement}
-use Rattle.calls.proofs.too_much.Tie as tie
+use Rattle.request.proofs.too_much.Statement.{statement}
+use Rattle.request.proofs.too_much.Tie as tie
 
 pub too-much-spec : {M : Type 1} → statement M
 unfolding overSupply tableOf

@@ -14,8 +14,8 @@ use Rattle.well.specs.Judged.{wellCells}
 use Rattle.well.proofs.Laws.{cells-of}
 use Rattle.replies.specs.OnCells.{requestOn}
 use Rattle.replies.proofs.OnLaws.{at-port, request-ill, request-no-port, request-goes}
-use Rattle.calls.proofs.request.Statement.{statement}
-use Rattle.calls.proofs.request.Tie as tie
+use Rattle.request.proofs.request.Statement.{statement}
+use Rattle.request.proofs.request.Tie as tie
 
 pub request-spec : {M : Type 1} → statement M
 request-spec =

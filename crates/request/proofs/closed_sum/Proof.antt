@@ -18,8 +18,8 @@ use Rattle.cells.specs.Cells.{countCell, tableOf}
 use Rattle.cells.specs.Codes.{stateOf}
 use Rattle.replies.specs.Calls.{granting}
 use Rattle.replies.proofs.OnLaws.{draws-with}
-use Rattle.calls.proofs.closed_sum.Statement.{statement}
-use Rattle.calls.proofs.closed_sum.Tie as tie
+use Rattle.request.proofs.closed_sum.Statement.{statement}
+use Rattle.request.proofs.closed_sum.Tie as tie
 
 abbrev drawnAt : List ℕ → ℕ → ℕ → ℕ → ℕ
 drawnAt l d at q = draws (portAt (granting (tenths d) at (tableOf l)) q)

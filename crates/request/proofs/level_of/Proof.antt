@@ -3,8 +3,8 @@
 use borrow.Author.Needs.{needs}
 use borrow.Author.Tests.{le-leb, lt-leb}
 use Rattle.replies.specs.Calls.{levelOf}
-use Rattle.calls.proofs.level_of.Statement.{statement}
-use Rattle.calls.proofs.level_of.Tie as tie
+use Rattle.request.proofs.level_of.Statement.{statement}
+use Rattle.request.proofs.level_of.Tie as tie
 
 pub level-of-spec : {M : Type 1} → statement M
 unfolding levelOf

@@ -1,8 +1,8 @@
 -- `drawn` is the demand of a closed state, by the codes of the three that are. Assumes nothing.
 use borrow.Author.Needs.{needs}
 use Rattle.cells.proofs.CodeLaws.{closed-code}
-use Rattle.calls.proofs.drawn.Statement.{statement}
-use Rattle.calls.proofs.drawn.Tie as tie
+use Rattle.request.proofs.drawn.Statement.{statement}
+use Rattle.request.proofs.drawn.Tie as tie
 
 pub drawn-spec : {M : Type 1} → statement M
 drawn-spec =

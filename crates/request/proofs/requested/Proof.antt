@@ -18,8 +18,8 @@ use Rattle.cells.proofs.LentLaws.{told-refused, told-done}
 use Rattle.replies.specs.Calls.{levelOf, granting, overSupply}
 use Rattle.replies.specs.Rest.{requestRest}
 use Rattle.replies.proofs.OnLaws.{state-at, class-at, demand-cell}
-use Rattle.calls.proofs.requested.Statement.{statement}
-use Rattle.calls.proofs.requested.Tie as tie
+use Rattle.request.proofs.requested.Statement.{statement}
+use Rattle.request.proofs.requested.Tie as tie
 
 pub requested-spec : {M : Type 1} → statement M
 requested-spec =
