@@ -1,5 +1,7 @@
 -- `port_bytes` is `portBytes`: 21 bytes in their order; a state, a class and latches that are saved are one byte.
 -- Assumes nothing.
+use mathlib.Core.Path.{refl, _∙_, ap₂}
+use mathlib.Core.List.{_∷_}
 use borrow.Author.Needs.{needs}
 use Rattle.cells.specs.Cells.{countsOf, portOf}
 use Rattle.image.specs.Image.{portBytes}
@@ -73,29 +75,24 @@ port-bytes-spec =
     let start = c .before .before .before .before .before .before .before .before .before .before .before .before .before .before .before .before .before .before .before .before .before .before .before .before .before .before .before .before .before .before .before .before .before .before in
     let l = start .args .cells .now in
     let p = start .args .p in
-    simp (
-      c .low12 .ensures,
-      c .before .high9 .ensures,
-      c .before .before .low11 .ensures,
-      c .before .before .before .high8 .ensures,
-      c .before .before .before .before .low10 .ensures,
-      c .before .before .before .before .before .high7 .ensures,
-      c .before .before .before .before .before .before .low9 .ensures,
-      c .before .before .before .before .before .before .before .high6 .ensures,
-      c .before .before .before .before .before .before .before .before .low8 .ensures,
-      c .before .before .before .before .before .before .before .before .before .high5 .ensures,
-      c .before .before .before .before .before .before .before .before .before .before .low7 .ensures,
-      c .before .before .before .before .before .before .before .before .before .before .before .high4 .ensures,
-      c .before .before .before .before .before .before .before .before .before .before .before .before .low6 .ensures,
-      c .before .before .before .before .before .before .before .before .before .before .before .before .before .high3 .ensures,
-      c .before .before .before .before .before .before .before .before .before .before .before .before .before .before .low5 .ensures,
-      c .before .before .before .before .before .before .before .before .before .before .before .before .before .before .before .low4 .ensures,
-      c .before .before .before .before .before .before .before .before .before .before .before .before .before .before .before .before .high2 .ensures,
-      c .before .before .before .before .before .before .before .before .before .before .before .before .before .before .before .before .before .low3 .ensures,
-      c .before .before .before .before .before .before .before .before .before .before .before .before .before .before .before .before .before .before .low2 .ensures,
-      c .before .before .before .before .before .before .before .before .before .before .before .before .before .before .before .before .before .before .before .high .ensures,
-      c .before .before .before .before .before .before .before .before .before .before .before .before .before .before .before .before .before .before .before .before .low .ensures,
-      state-byte l p (start .pre .1 .1),
-      class-byte l p (start .pre .1 .1),
-      latch-byte l p (start .pre .1 .1),
-    )))
+    ap₂ _∷_ (c .before .before .before .before .before .before .before .before .before .before .before .before .before .before .before .before .before .before .before .before .low .ensures ∙ state-byte l p (start .pre .1 .1))
+    (ap₂ _∷_ (c .before .before .before .before .before .before .before .before .before .before .before .before .before .before .before .before .before .before .before .high .ensures)
+    (ap₂ _∷_ (c .before .before .before .before .before .before .before .before .before .before .before .before .before .before .before .before .before .before .low2 .ensures)
+    (ap₂ _∷_ (c .before .before .before .before .before .before .before .before .before .before .before .before .before .before .before .before .before .low3 .ensures ∙ class-byte l p (start .pre .1 .1))
+    (ap₂ _∷_ (c .before .before .before .before .before .before .before .before .before .before .before .before .before .before .before .before .high2 .ensures)
+    (ap₂ _∷_ (c .before .before .before .before .before .before .before .before .before .before .before .before .before .before .before .low4 .ensures)
+    (ap₂ _∷_ (c .before .before .before .before .before .before .before .before .before .before .before .before .before .before .low5 .ensures ∙ latch-byte l p (start .pre .1 .1))
+    (ap₂ _∷_ (c .before .before .before .before .before .before .before .before .before .before .before .before .before .high3 .ensures)
+    (ap₂ _∷_ (c .before .before .before .before .before .before .before .before .before .before .before .before .low6 .ensures)
+    (ap₂ _∷_ (c .before .before .before .before .before .before .before .before .before .before .before .high4 .ensures)
+    (ap₂ _∷_ (c .before .before .before .before .before .before .before .before .before .before .low7 .ensures)
+    (ap₂ _∷_ (c .before .before .before .before .before .before .before .before .before .high5 .ensures)
+    (ap₂ _∷_ (c .before .before .before .before .before .before .before .before .low8 .ensures)
+    (ap₂ _∷_ (c .before .before .before .before .before .before .before .high6 .ensures)
+    (ap₂ _∷_ (c .before .before .before .before .before .before .low9 .ensures)
+    (ap₂ _∷_ (c .before .before .before .before .before .high7 .ensures)
+    (ap₂ _∷_ (c .before .before .before .before .low10 .ensures)
+    (ap₂ _∷_ (c .before .before .before .high8 .ensures)
+    (ap₂ _∷_ (c .before .before .low11 .ensures)
+    (ap₂ _∷_ (c .before .high9 .ensures)
+    (ap₂ _∷_ (c .low12 .ensures) refl))))))))))))))))))))))
