@@ -1,30 +1,6 @@
-// Numbers that bytes are, big-endian. Past the last byte stands 0.
+// Numbers of four and eight bytes, big-endian: 0 where there are fewer.
+use marks::bytes::word_at;
 ghost use Prim.Native.Nat.{_<_, _^_};
-
-fn wide(byte: u8) -> u64
-    ensures { λ r. ⌜ r < 256 ⌝ }
-{
-    byte as u64
-}
-
-fn byte_at(bytes: &[u8], at: usize) -> u64
-    ensures { λ r. ⌜ r < 256 ⌝ }
-{
-    if at < bytes.len() {
-        return wide(bytes[at]);
-    }
-    0
-}
-
-// Two bytes. No slice reaches to the last places that a number can name.
-pub fn word_at(bytes: &[u8], at: usize) -> u64
-    ensures { λ r. ⌜ r < 65536 ⌝ }
-{
-    if bytes.len() <= at {
-        return 0;
-    }
-    256 * byte_at(bytes, at) + byte_at(bytes, at + 1)
-}
 
 // Four bytes.
 pub fn long_at(bytes: &[u8], at: usize) -> usize

@@ -1,6 +1,5 @@
 // What each record asks.
 use crate::bytes::long_at;
-use crate::bytes::word_at;
 use crate::calls_on::call_on;
 use crate::calls_on::load;
 use crate::calls_on::second_on;
@@ -8,6 +7,7 @@ use crate::calls_on::second_read_in;
 use crate::calls_on::write_in;
 use first::frames::first_read;
 use first::frames::first_search;
+use marks::bytes::word_at;
 use third::third_demand;
 use verdict::Verdict;
 ghost use mathlib.Core.Path.{_≡_};
