@@ -50,6 +50,11 @@ mark-both false both e = refl
 third-holds : (c i m : Bool) → c ≡ true → i ≡ false → ((not c || i) || m) ≡ true → m ≡ true
 third-holds c i m e f g = simp (e, f) at g
 
+-- "no more than that figure": what is closed may draw all of it, so that a stricter test is refused here
+pub all-of-it : (l marks : List ℕ) (x : TickAnswer) → x .number ≡ 0 → allShownIn l marks x ≡ true → soundIn l marks x (demandsIn l x) ≡ true
+unfolding soundIn
+all-of-it l marks x n s = ap₂ _&&_ (ap₂ _&&_ (eq-eqb (x .number) 0 n) (le-leb (demandsIn l x) (demandsIn l x) (omega arith))) s
+
 module _ (t : Table) (l : List ℕ) (x : TickAnswer) (are : Are t l) (few : t .count ≤ 48) (names : Names x t) where
   pub sum-says : demandsIn l x ≡ closedSum t
   unfolding demandsIn
@@ -72,11 +77,6 @@ module _ (t : Table) (l : List ℕ) (x : TickAnswer) (are : Are t l) (few : t .c
           eqb-true (x .number) 0 (and-left (eqb (x .number) 0) (leb (demandsIn l x) figure) first),
           record { fits = omega (arith, sum-says); shows = shown-says (and-right (eqb (x .number) 0 && leb (demandsIn l x) figure) (allShownIn l marks x) e) },
         )
-
--- "no more than that figure": what is closed may draw all of it, so that a stricter test is refused here too
-pub all-of-it : (l marks : List ℕ) (x : TickAnswer) → x .number ≡ 0 → allShownIn l marks x ≡ true → soundIn l marks x (demandsIn l x) ≡ true
-unfolding soundIn
-all-of-it l marks x n s = ap₂ _&&_ (ap₂ _&&_ (eq-eqb (x .number) 0 n) (le-leb (demandsIn l x) (demandsIn l x) (omega arith))) s
 
 -- "Every port closed under the smaller figure is closed under the greater."
 pub lost-means : (t u : Table) (x y : TickAnswer) → t .count ≤ 48 → Names x t → Names y u → noneLostIn x y ≡ true → (p : ℕ) → closedAt t p ≡ true → closedAt u p ≡ true
