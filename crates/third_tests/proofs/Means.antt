@@ -7,7 +7,7 @@ use mathlib.Core.List.{List}
 use native.Mathlib.Omega.{arith}
 use lib.Dec.{leb, ltb, eqb}
 use lib.ListN.{getD}
-use borrow.Author.Tests.{ltb-true, lt-ltb, le-ltb, leb-true, le-leb, eqb-true, eq-eqb}
+use borrow.Author.Tests.{ltb-true, lt-ltb, le-ltb, leb-true, le-leb, eqb-true}
 use Rattle.lists.proofs.Every.{every-at}
 use Rattle.lists.proofs.Tests.{and-left, and-right}
 use Rattle.lists.specs.Total.{total}
@@ -53,7 +53,7 @@ third-holds c i m e f g = simp (e, f) at g
 -- "no more than that figure": what is closed may draw all of it, so that a stricter test is refused here
 pub all-of-it : (l marks : List ℕ) (x : TickAnswer) → x .number ≡ 0 → allShownIn l marks x ≡ true → soundIn l marks x (demandsIn l x) ≡ true
 unfolding soundIn
-all-of-it l marks x n s = ap₂ _&&_ (ap₂ _&&_ (eq-eqb (x .number) 0 n) (le-leb (demandsIn l x) (demandsIn l x) (omega arith))) s
+all-of-it l marks x n s = simp (n, le-leb (demandsIn l x) (demandsIn l x) (omega arith), s)
 
 module _ (t : Table) (l : List ℕ) (x : TickAnswer) (are : Are t l) (few : t .count ≤ 48) (names : Names x t) where
   pub sum-says : demandsIn l x ≡ closedSum t
