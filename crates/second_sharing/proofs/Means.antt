@@ -27,16 +27,20 @@ use Rattle.second_sharing.specs.Shared.{deniedCell, urgencyCell, placeCe
 unfoldable pub rankCell : List ℕ → List ℕ → ℕ → ℕ
 rankCell l m p = cond (closedCell m p || deniedCell m p) (cond (closedCell l p) 0 3 + urgencyCell l p) 6
 
-rank-small : (l : List ℕ) (p : ℕ) → cond (closedCell l p) 0 3 + urgencyCell l p < 6
+abbrev BelowThree : ℕ → Type 0
+BelowThree k = ltb k 3 ≡ true
+
+urgency-small : (l : List ℕ) (p : ℕ) → BelowThree (urgencyCell l p)
 unfolding urgencyCell
-rank-small l p = omega (arith, kind, priority)
+urgency-small l p =
+    let priority = getD l (56 + p) 0 / 16 % 4 in
+    choice BelowThree (eqb priority 1) _ _ refl (choice BelowThree (eqb priority 2) _ _ refl refl)
+
+rank-small : (l : List ℕ) (p : ℕ) → cond (closedCell l p) 0 3 + urgencyCell l p < 6
+rank-small l p = omega (arith, kind, ltb-true (urgencyCell l p) 3 (urgency-small l p))
   where
     kind : cond (closedCell l p) 0 3 ≤ 3
     kind = choice (λ (k : ℕ). k ≤ 3) (closedCell l p) 0 3 (omega arith) (omega arith)
-
-    priority : urgencyCell l p < 3
-    priority = choice (λ (k : ℕ). k < 3) (eqb (getD l (56 + p) 0 / 16 % 4) 1) 0 (cond (eqb (getD l (56 + p) 0 / 16 % 4) 2) 1 2) (omega arith)
-        (choice (λ (k : ℕ). k < 3) (eqb (getD l (56 + p) 0 / 16 % 4) 2) 1 2 (omega arith) (omega arith))
 
 holds-then : (a b : Bool) → a ≡ true → (not a || b) ≡ true → b ≡ true
 holds-then a b e f = simp e at f
