@@ -66,17 +66,18 @@ Asked ErrorDelay x = Unit {0}
 Asked TestMode x = Unit {0}
 Asked TestError x = Unit {0}
 
-pub idle-needs : (st : State) → isIdle st ≡ true → Needs st nothing
-idle-needs Disabled e = tt
-idle-needs Idle e = tt
-idle-needs Detecting e = tt
-idle-needs Backoff e = tt
-idle-needs Classifying e = absurd (false≢true e)
-idle-needs PowerUp e = absurd (false≢true e)
-idle-needs PowerOn e = absurd (false≢true e)
-idle-needs ErrorDelay e = tt
-idle-needs TestMode e = tt
-idle-needs TestError e = tt
+-- whoever stands in IDLE needs nothing, whatever it has shown
+pub idle-needs : (st : State) (x : Shown) → isIdle st ≡ true → Needs st x
+idle-needs Disabled x e = tt
+idle-needs Idle x e = tt
+idle-needs Detecting x e = tt
+idle-needs Backoff x e = tt
+idle-needs Classifying x e = absurd (false≢true e)
+idle-needs PowerUp x e = absurd (false≢true e)
+idle-needs PowerOn x e = absurd (false≢true e)
+idle-needs ErrorDelay x e = tt
+idle-needs TestMode x e = tt
+idle-needs TestError x e = tt
 
 module _ (s : Sample) where
   -- once a signature is shown it stays shown, and so does a class

@@ -182,8 +182,8 @@ reached-needs n a b [] p l =
     let k : p < n = subst (λ (m : ℕ). p < m) (ap (λ (t : Table). t .count) e ∙ cold-count n) l in
     subst (λ (t : Table). Needs (portAt t p .state) nothing) (sym e) (cold-needs n b p k)
 reached-needs n a b (c ∷ h) p l =
-    choice-on (λ (x : Shown). Needs (portAt (after (reached n h) c) p .state) x) (isIdle (portAt (after (reached n h) c) p .state)) nothing _
-    (λ e. idle-needs (portAt (after (reached n h) c) p .state) e)
+    choice-on (λ (x : Shown). Needs (portAt (after (reached n h) c) p .state) x) (isIdle (portAt (after (reached n h) c) p .state)) _ _
+    (λ e. idle-needs (portAt (after (reached n h) c) p .state) _ e)
     (λ e.
     let k : p < reached n h .count = subst (λ (m : ℕ). p < m) (call-count (reached n h) c) l in
     call-needs (reached n h) (reached-well n a b h) p (shown n p h) c k (reached-needs n a b h p k))
