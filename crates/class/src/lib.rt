@@ -8,17 +8,20 @@ pub enum Class {
     Failure,
 }
 
+// Document 01: "up to 5,000 class 0; to 13,000 class 1; to 21,000 class 2; to 31,000 class 3; to 45,000 class 4; above, failure."
+const LIMITS: [u16; 5] = [5_000, 13_000, 21_000, 31_000, 45_000];
+
 pub fn class_of(current: u16) -> Class
     ensures { λ r. ⌜ r ≡ classOf current ⌝ }
 {
-    match current {
-        0..=5_000 => Class::Is(0),
-        5_001..=13_000 => Class::Is(1),
-        13_001..=21_000 => Class::Is(2),
-        21_001..=31_000 => Class::Is(3),
-        31_001..=45_000 => Class::Is(4),
-        _ => Class::Failure,
+    let mut class = 0u8;
+    while class < 5 {
+        if current <= LIMITS[class as usize] {
+            return Class::Is(class);
+        }
+        class += 1;
     }
+    Class::Failure
 }
 
 fn is_four(class: Class) -> bool

@@ -1,19 +1,98 @@
--- `class_of` is `classOf`: each arm knows that the current is past the limits before it and within its own.
+-- `class_of` is `classOf`: the walk knows that the current is past the limit before, and so, since the table rises, past all before.
 -- Assumes nothing.
+use Prim.Native.Nat.{ℕ, zero, suc, _+_, _-_, _≤_, _<_}
+use mathlib.Core.Path.{_≡_, refl, sym, _∙_}
+use mathlib.Core.Bool.{true, cond}
+use mathlib.Core.List.{List, [], _∷_}
+use native.Mathlib.Nat.{le-antisymm, le-of-suc-le-suc, not-suc-le-zero}
+use native.Mathlib.Numerals.{add-one}
 use native.Mathlib.Omega.{arith}
-use borrow.Author.Tests.{le-leb, lt-leb}
+use lib.Dec.{leb, ltb}
+use lib.ListN.{length, getD, drop}
+use borrow.Author.Needs.{needs}
+use borrow.Author.Tests.{le-leb, lt-leb, ltb-true}
+use Rattle.lists.specs.Every.{every}
+use Rattle.lists.proofs.Every.{every-at}
 use Rattle.class.specs.Class.{classOf}
+use Rattle.class.specs.declared.Class.{Class}
+use Rattle.class.specs.declared.Class.the-variants.{Is, Failure}
 use Rattle.class.proofs.class_of.Statement.{statement}
 use Rattle.class.proofs.class_of.Tie as tie
 
+-- the code's table
+abbrev limits : List ℕ
+limits = 5000 ∷ 13000 ∷ 21000 ∷ 31000 ∷ 45000 ∷ []
+
+abbrev limit : ℕ → ℕ
+limit k = getD limits k 0
+
+-- what a table says from class k on: the class of the first limit that the current is not past
+unfoldable said : List ℕ → ℕ → ℕ → Class
+said [] k i = Failure
+said (l ∷ ls) k i = cond (leb i l) (Is k) (said ls (k + 1) i)
+
+-- the table's entries are the limits of the definition
+said-by-all : (i : ℕ) → classOf i ≡ said limits 0 i
+unfolding classOf said
+said-by-all i = refl
+
+said-at : (ls : List ℕ) (k n i : ℕ) → k < length ls → said (drop k ls) n i ≡ cond (leb i (getD ls k 0)) (Is n) (said (drop (suc k) ls) (n + 1) i)
+unfolding said
+said-at [] k n i h = absurd (not-suc-le-zero h)
+said-at (l ∷ ls) zero n i h = refl
+said-at (l ∷ ls) (suc k) n i h = said-at ls k n i (le-of-suc-le-suc h)
+
+-- the table rises: the test is computed once over the whole of it
+rising : every 4 (λ k. ltb (limit k) (limit (suc k))) ≡ true
+unfolding every
+rising = refl
+
+rises : (k : ℕ) → k < 4 → limit k < limit (suc k)
+rises k h = ltb-true (limit k) (limit (suc k)) (every-at 4 (λ k. ltb (limit k) (limit (suc k))) rising k h)
+
+-- the current is past the limit before that of class k, if there is one
+abbrev Past : ℕ → ℕ → Type 0
+Past zero i = Unit {0}
+Past (suc k) i = limit k < i
+
+past-before : (k i : ℕ) → k < 5 → limit k < i → Past k i
+past-before zero i h p = tt
+past-before (suc k) i h p = omega (arith, rises k (le-of-suc-le-suc h), p)
+
+-- then no limit before says the class
+said-from : (k i : ℕ) → k ≤ 5 → Past k i → classOf i ≡ said (drop k limits) k i
+said-from zero i h p = said-by-all i
+said-from (suc k) i h p =
+    said-from k i (omega (arith, h)) (past-before k i h p) ∙ said-at limits k k i h ∙ simp (lt-leb i (limit k) p, add-one)
+
+up-to-limit : (k i : ℕ) → k < 5 → Past k i → i ≤ limit k → Is k ≡ classOf i
+up-to-limit k i h p l = sym (said-from k i (omega (arith, h)) p ∙ said-at limits k k i h ∙ simp (le-leb i (limit k) l))
+
+past-all : (i : ℕ) → Past 5 i → Failure ≡ classOf i
+unfolding said
+past-all i p = sym (said-from 5 i (omega arith) p)
+
+abbrev Inv-loop : tie.InvT-loop
+Inv-loop current class₀ class = (class ≤ 5) × Past class current
+
+abbrev μ-loop : tie.MeasureT-loop
+μ-loop current class₀ class = 5 - class
+
 pub class-of-spec : {M : Type 1} → statement M
-unfolding classOf
 class-of-spec =
     tie.close
     (tie.spec
-    (λ c. let i = c .before .args .current in simp (le-leb i 5000 (omega arith)))
-    (λ c. let i = c .before .before .args .current in simp (lt-leb i 5000 (omega arith), le-leb i 13000 (omega arith)))
-    (λ c. let i = c .before .before .before .args .current in simp (lt-leb i 5000 (omega arith), lt-leb i 13000 (omega arith), le-leb i 21000 (omega arith)))
-    (λ c. let i = c .before .before .before .before .args .current in simp (lt-leb i 5000 (omega arith), lt-leb i 13000 (omega arith), lt-leb i 21000 (omega arith), le-leb i 31000 (omega arith)))
-    (λ c. let i = c .before .before .before .before .before .args .current in simp (lt-leb i 5000 (omega arith), lt-leb i 13000 (omega arith), lt-leb i 21000 (omega arith), lt-leb i 31000 (omega arith), le-leb i 45000 (omega arith)))
-    (λ c. let i = c .before .before .before .before .before .args .current in simp (lt-leb i 5000 (omega arith), lt-leb i 13000 (omega arith), lt-leb i 21000 (omega arith), lt-leb i 31000 (omega arith), lt-leb i 45000 (omega arith))))
+    Inv-loop
+    μ-loop
+    (λ c. (omega arith, tt))
+    (λ c. search needs)
+    (λ c. search needs)
+    (λ c. search needs)
+    (λ c. let l = c .before .before .loop in up-to-limit (l .class) _ (omega arith) (l .inv .1) (c .if1 .taken))
+    (λ c. omega arith)
+    (λ c. omega arith)
+    (λ c. (omega arith, rw add-one (c .if1 .left)))
+    (λ c.
+    let l = c .before .loop in
+    let e : l .class ≡ 5 = le-antisymm (l .inv .0) (omega arith) in
+    past-all _ (rw e at (l .inv .1))))
