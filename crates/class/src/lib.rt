@@ -8,7 +8,7 @@ pub enum Class {
     Failure,
 }
 
-// Document 01: "up to 5,000 class 0; to 13,000 class 1; to 21,000 class 2; to 31,000 class 3; to 45,000 class 4; above, failure."
+// Document 01: "up to 5,000 class 0; to 13,000 class 1; to 21,000 class 2; to 31,000 class 3; to 45,000 class 4"
 const LIMITS: [u16; 5] = [5_000, 13_000, 21_000, 31_000, 45_000];
 
 pub fn class_of(current: u16) -> Class
@@ -21,7 +21,7 @@ pub fn class_of(current: u16) -> Class
         }
         class += 1;
     }
-    Class::Failure
+    Class::Failure // "above, failure"
 }
 
 fn is_four(class: Class) -> bool

@@ -1,4 +1,4 @@
--- `class_of` is `classOf`: the walk knows that the current is past the limit before, and so, since the table rises, past all before.
+-- `class_of` is `classOf`: the walk knows that the current is past the limit before, and the rule of the table says the rest.
 -- Assumes nothing.
 use Prim.Native.Nat.{ℕ, zero, suc, _+_, _-_, _≤_, _<_}
 use mathlib.Core.Path.{_≡_, refl, sym, _∙_}
@@ -26,31 +26,33 @@ limits = 5000 ∷ 13000 ∷ 21000 ∷ 31000 ∷ 45000 ∷ []
 abbrev limit : ℕ → ℕ
 limit k = getD limits k 0
 
--- what a table says from class k on: the class of the first limit that the current is not past
+-- what a table of limits says, its first entry that of class k: the class of the first limit that the current is not past
 unfoldable said : List ℕ → ℕ → ℕ → Class
 said [] k i = Failure
 said (l ∷ ls) k i = cond (leb i l) (Is k) (said ls (k + 1) i)
 
--- the table's entries are the limits of the definition
+-- The rule of the table. Its entries are the limits of the definition: the two say the same, over the whole table
 said-by-all : (i : ℕ) → classOf i ≡ said limits 0 i
 unfolding classOf said
 said-by-all i = refl
 
+-- and so at each entry
 said-at : (ls : List ℕ) (k n i : ℕ) → k < length ls → said (drop k ls) n i ≡ cond (leb i (getD ls k 0)) (Is n) (said (drop (suc k) ls) (n + 1) i)
 unfolding said
 said-at [] k n i h = absurd (not-suc-le-zero h)
 said-at (l ∷ ls) zero n i h = refl
 said-at (l ∷ ls) (suc k) n i h = said-at ls k n i (le-of-suc-le-suc h)
 
--- the table rises: the test is computed once over the whole of it
+-- And it rises: the test is computed once over the whole table
 rising : every 4 (λ k. ltb (limit k) (limit (suc k))) ≡ true
 unfolding every
 rising = refl
 
+-- and so at each entry
 rises : (k : ℕ) → k < 4 → limit k < limit (suc k)
 rises k h = ltb-true (limit k) (limit (suc k)) (every-at 4 (λ k. ltb (limit k) (limit (suc k))) rising k h)
 
--- the current is past the limit before that of class k, if there is one
+-- the current is past the limit before that of class k, if there is one; since the table rises, past all before it
 abbrev Past : ℕ → ℕ → Type 0
 Past zero i = Unit {0}
 Past (suc k) i = limit k < i
@@ -59,15 +61,17 @@ past-before : (k i : ℕ) → k < 5 → limit k < i → Past k i
 past-before zero i h p = tt
 past-before (suc k) i h p = omega (arith, rises k (le-of-suc-le-suc h), p)
 
--- then no limit before says the class
+-- then what the table says is said from class k on
 said-from : (k i : ℕ) → k ≤ 5 → Past k i → classOf i ≡ said (drop k limits) k i
 said-from zero i h p = said-by-all i
 said-from (suc k) i h p =
     said-from k i (omega (arith, h)) (past-before k i h p) ∙ said-at limits k k i h ∙ simp (lt-leb i (limit k) p, add-one)
 
+-- "to 13,000 class 1": past the limit before and up to its own, a current has the class
 up-to-limit : (k i : ℕ) → k < 5 → Past k i → i ≤ limit k → Is k ≡ classOf i
 up-to-limit k i h p l = sym (said-from k i (omega (arith, h)) p ∙ said-at limits k k i h ∙ simp (le-leb i (limit k) l))
 
+-- "above, failure"
 past-all : (i : ℕ) → Past 5 i → Failure ≡ classOf i
 unfolding said
 past-all i p = sym (said-from 5 i (omega arith) p)
@@ -88,10 +92,12 @@ class-of-spec =
     (λ c. search needs)
     (λ c. search needs)
     (λ c. search needs)
-    (λ c. let l = c .before .before .loop in up-to-limit (l .class) _ (omega arith) (l .inv .1) (c .if1 .taken))
+    (λ c. let l = c .before .before .loop in up-to-limit (l .class) _ (omega arith) (l .inv .1) (omega arith))
     (λ c. omega arith)
     (λ c. omega arith)
-    (λ c. (omega arith, rw add-one (c .if1 .left)))
+    (λ c.
+    let p : limit (c .before .before .loop .class) < c .before .before .before .args .current = omega arith in
+    (omega arith, rw add-one p))
     (λ c.
     let l = c .before .loop in
     let e : l .class ≡ 5 = le-antisymm (l .inv .0) (omega arith) in
