@@ -246,11 +246,14 @@ fn looks(root: &Path) -> Result<(), String> {
 
 pub fn all(root: &Path) -> Result<(), String> {
     println!("check: the plain programs, the C functions and the reference");
-    for short in [false, true] {
-        let mix = mixes::mix(if short { "short of supply" } else { "every claim fits" }, 48, short);
-        ticked(&mix, MIX_TICKS, 1)?;
+    let fitting = mixes::mix("every claim fits", 48, false);
+    let short = mixes::mix("short of supply", 48, true);
+    for mix in [&fitting, &short, &mixes::classified()] {
+        ticked(mix, MIX_TICKS, 1)?;
         println!("  {}: {MIX_TICKS} ticks, no difference", mix.name);
-        let calls = calls::timed(&mix, CALLS, 1)?;
+    }
+    for mix in [&fitting, &short] {
+        let calls = calls::timed(mix, CALLS, 1)?;
         let names: Vec<&str> = calls.iter().map(|(name, _)| *name).collect();
         println!("  {}: {}: {CALLS} calls of each, no difference", mix.name, names.join(", "));
     }

@@ -24,6 +24,7 @@ use std::process::ExitCode;
 
 const ROUNDS: usize = 7;
 const TICKS: u64 = 1_000_000;
+const CLASSIFIED_TICKS: u64 = 200_000;
 const GROWTH: [usize; 9] = [1, 2, 4, 8, 16, 24, 32, 40, 48];
 const GROWTH_TICKS: u64 = 200_000;
 /// Of status, control, request, save and restore, beside which the reference makes as many.
@@ -63,10 +64,10 @@ fn looked(name: &str, records: &Records, plain: Look, door: Look) -> Result<(), 
     Ok(())
 }
 
-fn mixed(mix: &Mix) -> Result<Ticked, String> {
-    println!("{}: {TICKS} ticks of 48 ports a round, {ROUNDS} rounds of each in turn", mix.name);
+fn mixed(mix: &Mix, ticks: u64) -> Result<Ticked, String> {
+    println!("{}: {ticks} ticks of 48 ports a round, {ROUNDS} rounds of each in turn", mix.name);
     mixes::made(mix).print();
-    let ticked = ticked(mix, TICKS, ROUNDS)?;
+    let ticked = ticked(mix, ticks, ROUNDS)?;
     ticked.plain.print("plain", "tick");
     ticked.lent.print("plain, lent", "tick");
     ticked.door.print("C", "tick");
@@ -109,8 +110,9 @@ fn load(when: &str) {
 fn times(root: &Path) -> Result<(), String> {
     load("before");
     let mix = mixes::mix("every claim fits", 48, false);
-    let fitting = mixed(&mix)?;
-    let short = mixed(&mixes::mix("short of supply", 48, true))?;
+    let fitting = mixed(&mix, TICKS)?;
+    let short = mixed(&mixes::mix("short of supply", 48, true), TICKS)?;
+    mixed(&mixes::classified(), CLASSIFIED_TICKS)?;
     growth()?;
     other_calls(&mix, &fitting.plain)?;
     let stored = frames::stored(root);

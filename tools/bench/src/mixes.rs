@@ -13,7 +13,7 @@ use reference::reading::BUDGETS;
 /// Blocks and figures that come in turn.
 pub const BLOCKS: usize = 64;
 
-/// So often the start table comes back: left alone, a table settles in few states.
+/// So often the start table of a mix of all states comes back: left alone, a table settles in few of them.
 pub const RESTORE: u64 = 256;
 
 /// How many of 48 ports start in each state.
@@ -36,12 +36,14 @@ pub struct Mix {
     pub blocks: Vec<u8>,
     pub size: usize,
     pub figures: Vec<u8>,
+    /// So often the start table comes back.
+    pub restore: u64,
 }
 
 impl Mix {
     pub fn turns(&self, ticks: u64) -> Turns<'_> {
         let (blocks, figures) = (&self.blocks, &self.figures);
-        Turns { blocks, size: self.size, figures, ticks, restore: RESTORE }
+        Turns { blocks, size: self.size, figures, ticks, restore: self.restore }
     }
 
     pub fn cells(&self) -> Vec<u16> {
@@ -113,10 +115,10 @@ fn flags(r: &mut Random, port: usize) -> u16 {
     done | faults | (now(5, 6, port % 16 == 11) ^ 1 << 5)
 }
 
-fn sample(r: &mut Random, port: usize) -> Vec<u8> {
+fn sample(r: &mut Random, flags: impl FnOnce(&mut Random) -> u16) -> Vec<u8> {
     let [v1, v2, i1, i2] = signature(r);
     let class = r.between(0, 46_000) as u16;
-    let words = [v1, v2, i1, i2, class, class, flags(r, port)];
+    let words = [v1, v2, i1, i2, class, class, flags(r)];
     words.iter().flat_map(|word| word.to_be_bytes()).collect()
 }
 
@@ -137,11 +139,27 @@ pub fn mix(name: &'static str, count: usize, short: bool) -> Mix {
         table.ports[..count].iter().filter(|p| closed(p.state)).map(|p| u64::from(p.demand)).sum();
     let (mut blocks, mut figures) = (Vec::new(), Vec::new());
     for block in 0..BLOCKS {
-        let samples: Vec<u8> = (0..PLACES).flat_map(|port| sample(&mut r, port)).collect();
+        let samples: Vec<u8> =
+            (0..PLACES).flat_map(|port| sample(&mut r, |r| flags(r, port))).collect();
         blocks.extend_from_slice(&samples[..count * SAMPLE_BYTES]);
         figures.extend(figure(&mut r, block, short, claims).to_be_bytes());
     }
-    Mix { name, table, blocks, size: count * SAMPLE_BYTES, figures }
+    Mix { name, table, blocks, size: count * SAMPLE_BYTES, figures, restore: RESTORE }
+}
+
+/// Bits 1 and 5 of a sample's flags: class done, load present.
+const CLASS_DONE: u16 = 1 << 1 | 1 << 5;
+
+/// In every tick every port reads its class, from any current, and asks; all claims fit. The other mixes read a class in some five of
+/// ten thousand port-ticks, so that they hardly show what the reading takes.
+pub fn classified() -> Mix {
+    let mut r = Random::new(5);
+    let ports = [(); PLACES].map(|()| port_in(&mut r, State::Classifying));
+    let table = Table { ports, count: PLACES as u16, supply: HIGHEST_SUPPLY };
+    let blocks = (0..BLOCKS * PLACES).flat_map(|_| sample(&mut r, |_| CLASS_DONE)).collect();
+    let figures = HIGHEST_SUPPLY.to_be_bytes().to_vec();
+    let size = PLACES * SAMPLE_BYTES;
+    Mix { name: "every port is classified", table, blocks, size, figures, restore: 1 }
 }
 
 fn closed(state: State) -> bool {
@@ -162,13 +180,13 @@ pub fn made(mix: &Mix) -> Made {
     let mut made = Made::default();
     let mut table = mix.table.clone();
     for k in 0..BLOCKS * 64 {
-        if k as u64 % RESTORE == 0 {
+        if k as u64 % mix.restore == 0 {
             table.clone_from(&mix.table);
         }
         table.ports.iter_mut().for_each(|port| port.latches = 0);
         let block = &mix.blocks[k % BLOCKS * mix.size..][..mix.size];
-        let figure =
-            u16::from_be_bytes([mix.figures[k % BLOCKS * 2], mix.figures[k % BLOCKS * 2 + 1]]);
+        let at = k * 2 % mix.figures.len();
+        let figure = u16::from_be_bytes([mix.figures[at], mix.figures[at + 1]]);
         let mut after = table.clone();
         let answer = tick(&mut after, block, u64::from(figure));
         assert!(matches!(answer, Closed::Ports(..)), "a mix is never refused");
