@@ -150,8 +150,8 @@ pub fn mix(name: &'static str, count: usize, short: bool) -> Mix {
 /// Bits 1 and 5 of a sample's flags: class done, load present.
 const CLASS_DONE: u16 = 1 << 1 | 1 << 5;
 
-/// In every tick every port reads its class, from any current, and asks; all claims fit. The other mixes read a class in some five of
-/// ten thousand port-ticks, so that they hardly show what the reading takes.
+/// In every tick every port reads its class, from any current, and asks; all claims fit. The other mixes read a class in 8 and in 16 of ten
+/// thousand port-ticks, so that they hardly show what the reading takes.
 pub fn classified() -> Mix {
     let mut r = Random::new(5);
     let ports = [(); PLACES].map(|()| port_in(&mut r, State::Classifying));

@@ -1,14 +1,15 @@
 -- `class_of` is `classOf`: the walk knows that the current is past the limit before, and the rule of the table says the rest.
 -- Assumes nothing.
 use Prim.Native.Nat.{ℕ, zero, suc, _+_, _-_, _≤_, _<_}
-use mathlib.Core.Path.{_≡_, refl, sym, _∙_}
+use mathlib.Core.Path.{_≡_, refl, sym, _∙_, ap}
 use mathlib.Core.Bool.{true, cond}
 use mathlib.Core.List.{List, [], _∷_}
-use native.Mathlib.Nat.{le-antisymm, le-of-suc-le-suc, not-suc-le-zero}
+use native.Mathlib.Nat.{le-antisymm, le-of-suc-le-suc}
 use native.Mathlib.Numerals.{add-one}
 use native.Mathlib.Omega.{arith}
 use lib.Dec.{leb, ltb}
-use lib.ListN.{length, getD, drop}
+use lib.ListN.{getD, drop}
+use lib.Seq.{drop-cons}
 use borrow.Author.Needs.{needs}
 use borrow.Author.Tests.{le-leb, lt-leb, ltb-true}
 use Rattle.lists.specs.Every.{every}
@@ -37,11 +38,9 @@ unfolding classOf said
 said-by-all i = refl
 
 -- and so at each entry
-said-at : (ls : List ℕ) (k n i : ℕ) → k < length ls → said (drop k ls) n i ≡ cond (leb i (getD ls k 0)) (Is n) (said (drop (suc k) ls) (n + 1) i)
+said-at : (k i : ℕ) → k < 5 → said (drop k limits) k i ≡ cond (leb i (limit k)) (Is k) (said (drop (suc k) limits) (k + 1) i)
 unfolding said
-said-at [] k n i h = absurd (not-suc-le-zero h)
-said-at (l ∷ ls) zero n i h = refl
-said-at (l ∷ ls) (suc k) n i h = said-at ls k n i (le-of-suc-le-suc h)
+said-at k i h = ap (λ ls. said ls k i) (drop-cons limits k 0 h)
 
 -- And it rises: the test is computed once over the whole table
 rising : every 4 (λ k. ltb (limit k) (limit (suc k))) ≡ true
@@ -65,11 +64,11 @@ past-before (suc k) i h p = omega (arith, rises k (le-of-suc-le-suc h), p)
 said-from : (k i : ℕ) → k ≤ 5 → Past k i → classOf i ≡ said (drop k limits) k i
 said-from zero i h p = said-by-all i
 said-from (suc k) i h p =
-    said-from k i (omega (arith, h)) (past-before k i h p) ∙ said-at limits k k i h ∙ simp (lt-leb i (limit k) p, add-one)
+    said-from k i (omega (arith, h)) (past-before k i h p) ∙ said-at k i h ∙ simp (lt-leb i (limit k) p, add-one)
 
 -- "to 13,000 class 1": past the limit before and up to its own, a current has the class
 up-to-limit : (k i : ℕ) → k < 5 → Past k i → i ≤ limit k → Is k ≡ classOf i
-up-to-limit k i h p l = sym (said-from k i (omega (arith, h)) p ∙ said-at limits k k i h ∙ simp (le-leb i (limit k) l))
+up-to-limit k i h p l = sym (said-from k i (omega (arith, h)) p ∙ said-at k i h ∙ simp (le-leb i (limit k) l))
 
 -- "above, failure"
 past-all : (i : ℕ) → Past 5 i → Failure ≡ classOf i
