@@ -11,17 +11,22 @@ pub enum Class {
 // Document 01: "up to 5,000 class 0; to 13,000 class 1; to 21,000 class 2; to 31,000 class 3; to 45,000 class 4"
 const LIMITS: [u16; 5] = [5_000, 13_000, 21_000, 31_000, 45_000];
 
+// The class is that after the last limit that the current is past. All five are looked at: a walk that ends at the first that it is not
+// past is unrolled into a chain of branches.
 pub fn class_of(current: u16) -> Class
     ensures { λ r. ⌜ r ≡ classOf current ⌝ }
 {
     let mut class = 0u8;
-    while class < 5 {
-        if current <= LIMITS[class as usize] {
-            return Class::Is(class);
+    for k in 0..5u8 {
+        if current > LIMITS[k as usize] {
+            class = k + 1;
         }
-        class += 1;
     }
-    Class::Failure // "above, failure"
+    if class == 5 {
+        Class::Failure // "above, failure"
+    } else {
+        Class::Is(class)
+    }
 }
 
 fn is_four(class: Class) -> bool

@@ -150,13 +150,18 @@ pub fn mix(name: &'static str, count: usize, short: bool) -> Mix {
 /// Bits 1 and 5 of a sample's flags: class done, load present.
 const CLASS_DONE: u16 = 1 << 1 | 1 << 5;
 
+/// Of the mix in which every port is classified. A processor that foresees branches can learn the currents of 64 blocks by heart, and a
+/// board's never repeat.
+const CLASSIFIED_BLOCKS: usize = 1024;
+
 /// In every tick every port reads its class, from any current, and asks; all claims fit. The other mixes read a class in 8 and in 16 of ten
 /// thousand port-ticks, so that they hardly show what the reading takes.
 pub fn classified() -> Mix {
     let mut r = Random::new(5);
     let ports = [(); PLACES].map(|()| port_in(&mut r, State::Classifying));
     let table = Table { ports, count: PLACES as u16, supply: HIGHEST_SUPPLY };
-    let blocks = (0..BLOCKS * PLACES).flat_map(|_| sample(&mut r, |_| CLASS_DONE)).collect();
+    let samples = (0..CLASSIFIED_BLOCKS * PLACES).flat_map(|_| sample(&mut r, |_| CLASS_DONE));
+    let blocks = samples.collect();
     let figures = HIGHEST_SUPPLY.to_be_bytes().to_vec();
     let size = PLACES * SAMPLE_BYTES;
     Mix { name: "every port is classified", table, blocks, size, figures, restore: 1 }
@@ -184,7 +189,7 @@ pub fn made(mix: &Mix) -> Made {
             table.clone_from(&mix.table);
         }
         table.ports.iter_mut().for_each(|port| port.latches = 0);
-        let block = &mix.blocks[k % BLOCKS * mix.size..][..mix.size];
+        let block = &mix.blocks[k * mix.size % mix.blocks.len()..][..mix.size];
         let at = k * 2 % mix.figures.len();
         let figure = u16::from_be_bytes([mix.figures[at], mix.figures[at + 1]]);
         let mut after = table.clone();

@@ -1,10 +1,11 @@
--- `class_of` is `classOf`: the walk knows that the current is past the limit before, and the rule of the table says the rest.
+-- `class_of` is `classOf`: the walk finds the last limit that the current is past, and the rule of the table says the rest.
 -- Assumes nothing.
 use Prim.Native.Nat.{ℕ, zero, suc, _+_, _-_, _≤_, _<_}
-use mathlib.Core.Path.{_≡_, refl, sym, _∙_, ap}
+use mathlib.Core.Path.{_≡_, refl, sym, _∙_, ap, subst}
 use mathlib.Core.Bool.{true, cond}
 use mathlib.Core.List.{List, [], _∷_}
-use native.Mathlib.Nat.{le-antisymm, le-of-suc-le-suc}
+use mathlib.Core.Logic.{⊎-elim}
+use native.Mathlib.Nat.{eq-or-lt-of-le, le-antisymm, le-of-suc-le-suc}
 use native.Mathlib.Numerals.{add-one}
 use native.Mathlib.Omega.{arith}
 use lib.Dec.{leb, ltb}
@@ -75,11 +76,23 @@ past-all : (i : ℕ) → Past 5 i → Failure ≡ classOf i
 unfolding said
 past-all i p = sym (said-from 5 i (omega arith) p)
 
+-- after the first k limits: the current is past the one before this class, and of those from the class on not past the first
+abbrev Walked : ℕ → ℕ → ℕ → Type 0
+Walked class k i = (class ≤ k) × Past class i × (class < k → i ≤ limit class)
+
+past-next : (k i : ℕ) → limit k < i → Walked (k + 1) (k + 1) i
+past-next k i p = (omega arith, rw add-one p, λ h. omega (arith, h))
+
+not-past-next : (class k i : ℕ) → Walked class k i → i ≤ limit k → Walked class (k + 1) i
+not-past-next class k i w l =
+    let next : (e : class ≡ k) → i ≤ limit class = λ e. rw e l in
+    (omega (arith, w .0), w .1, λ h. ⊎-elim next (w .2) (eq-or-lt-of-le {n = class} {m = k} (w .0)))
+
 abbrev Inv-loop : tie.InvT-loop
-Inv-loop current class₀ class = (class ≤ 5) × Past class current
+Inv-loop current class₀ k₀ class k = (k ≤ 5) × (Walked class k current)
 
 abbrev μ-loop : tie.MeasureT-loop
-μ-loop current class₀ class = 5 - class
+μ-loop current class₀ k₀ class k = 5 - k
 
 pub class-of-spec : {M : Type 1} → statement M
 class-of-spec =
@@ -87,17 +100,29 @@ class-of-spec =
     (tie.spec
     Inv-loop
     μ-loop
-    (λ c. (omega arith, tt))
+    (λ c. (omega arith, (omega arith, tt, λ h. omega (arith, h))))
     (λ c. search needs)
     (λ c. search needs)
     (λ c. search needs)
-    (λ c. let l = c .before .before .loop in up-to-limit (l .class) _ (omega arith) (l .inv .1) (omega arith))
+    (λ c. omega arith)
     (λ c. omega arith)
     (λ c. omega arith)
     (λ c.
-    let p : limit (c .before .before .loop .class) < c .before .before .before .args .current = omega arith in
-    (omega arith, rw add-one p))
+    let l = c .before .before .loop in
+    let i = c .before .before .before .args .current in
+    let Next : ℕ → Type 0 = λ class. Walked class (l .k + 1) i in (
+      omega arith,
+      ⊎-elim
+          (λ w. subst Next (sym (w .1)) (past-next (l .k) i (w .0 .taken)))
+          (λ w. subst Next (sym (w .1)) (not-past-next (l .class) (l .k) i (l .inv .1) (w .0 .left)))
+          (c .if1 .came),
+    ))
     (λ c.
-    let l = c .before .loop in
-    let e : l .class ≡ 5 = le-antisymm (l .inv .0) (omega arith) in
-    past-all _ (rw e at (l .inv .1))))
+    let l = c .before .before .loop in
+    let e : l .class ≡ 5 = omega arith in
+    past-all _ (rw e at (l .inv .1 .1)))
+    (λ c.
+    let l = c .before .before .loop in
+    let e : l .k ≡ 5 = le-antisymm (l .inv .0) (omega arith) in
+    let h : l .class < 5 = omega (arith, l .inv .1 .0, c .if2 .left) in
+    up-to-limit (l .class) _ h (l .inv .1 .1) (l .inv .1 .2 (omega (arith, h, e)))))
