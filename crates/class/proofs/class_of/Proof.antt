@@ -76,7 +76,7 @@ past-all : (i : ℕ) → Past 5 i → Failure ≡ classOf i
 unfolding said
 past-all i p = sym (said-from 5 i (omega arith) p)
 
--- after the first k limits: the current is past the one before this class, and of those from the class on not past the first
+-- what the walk holds after k limits: the current is past the limit before that class, and not past its own if that was among them
 abbrev Walked : ℕ → ℕ → ℕ → Type 0
 Walked class k i = (class ≤ k) × Past class i × (class < k → i ≤ limit class)
 
