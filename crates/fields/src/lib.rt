@@ -1,6 +1,7 @@
 // The fields of a power TLV, in both its forms.
+use sizes::MOST_VALUE;
 ghost use mathlib.Core.Path.{_≡_};
-ghost use Rattle.fields.specs.Fields.{outside, badValues};
+ghost use Rattle.fields.specs.Fields.{tooHigh, badValues};
 
 // Document 01: "three octets kept as they are (support, pair, class)."
 pub struct Fields {
@@ -25,13 +26,10 @@ pub struct Added {
     pub allocated: u64,
 }
 
-fn outside(value: u64) -> bool
-    ensures { λ r. ⌜ r ≡ outside value ⌝ }
+fn too_high(value: u64) -> bool
+    ensures { λ r. ⌜ r ≡ tooHigh value ⌝ }
 {
-    if value < 1 {
-        return true;
-    }
-    255 < value
+    MOST_VALUE < value
 }
 
 // Refusal 10, of the reader and of the writer.
@@ -41,10 +39,10 @@ pub fn bad_values(form: Form) -> bool
     match form {
         Form::Short => false,
         Form::Long(added) => {
-            if outside(added.requested) {
+            if too_high(added.requested) {
                 return true;
             }
-            outside(added.allocated)
+            too_high(added.allocated)
         }
     }
 }

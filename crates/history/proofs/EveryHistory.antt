@@ -6,7 +6,7 @@ use mathlib.Core.Bool.{cond}
 use mathlib.Core.List.{List, [], _∷_}
 use mathlib.Core.Logic.{_⊎_, inl, inr, ⊎-elim}
 use native.Mathlib.Omega.{arith}
-use lib.Dec.{leb, ltb}
+use lib.Dec.{leb, ltb, eqb}
 use borrow.Author.Tests.{leb-false, ltb-false}
 use Rattle.lists.specs.Bits.{above}
 use Rattle.lists.proofs.Ladder.{ladder-holds}
@@ -74,7 +74,7 @@ module _ (t : Table) (few : t .count ≤ 48) where
   unfolding request refuse
   request-still p v odd =
       ladder-holds (λ (r : Replied). r .table ≡ t) (λ k. refuse k t) _ (requestRefusals t p v) (λ k. refl)
-      (λ c. absurd (odd (omega (arith, leb-false (t .count) p (c .1 .0)), omega (arith, ltb-false 255 v (fails-right (ltb v 1) (ltb 255 v) (c .1 .1 .0))))))
+      (λ c. absurd (odd (omega (arith, leb-false (t .count) p (c .1 .0)), omega (arith, ltb-false _ v (fails-right (eqb v 0) _ (c .1 .1 .0))))))
 
   stopped-left : (block : List ℕ) (figure : ℕ) → Stopped t (tick t block figure) → Left t (ticked block figure)
   unfolding after adds

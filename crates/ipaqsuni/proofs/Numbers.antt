@@ -10,7 +10,8 @@ use lib.ListN.{getD}
 use borrow.Author.Tests.{ltb-false}
 use Rattle.lists.specs.Bits.{field}
 use Rattle.lists.proofs.Ladder.{ladder-value}
-use Rattle.fields.specs.Fields.{outside, badValues}
+use Rattle.fields.specs.Fields.{tooHigh, badValues}
+use Rattle.fields.proofs.Values.{in-range}
 use Rattle.header.specs.Header.{lengthAt}
 use Rattle.reader.specs.Read.{addedIn, formIn, fieldsIn, readRefusals, readOf}
 use Rattle.writer.specs.Write.{writtenOf, roomAfter}
@@ -38,16 +39,12 @@ octets n e =
     let c = ltb-false 255 (getD n 3 0) (j .1) in
     (omega arith, omega arith, omega arith)
 
-inside : (v : ℕ) → outside v ≡ false → v < 2 ^ 32
-unfolding outside
-inside v e = omega (arith, ltb-false 255 v (neither (ltb v 1) _ e .1))
-
 narrow-form : (bytes : List ℕ) (short : Bool) → badValues (cond short Short (Long (addedIn bytes))) ≡ false → Narrow (cond short Short (Long (addedIn bytes)))
 unfolding badValues addedIn field
 narrow-form bytes true e = tt
 narrow-form bytes false e =
-    let h = neither (outside (addedIn bytes .requested)) _ e in
-    (omega arith, omega arith, omega arith, inside _ (h .0), inside _ (h .1))
+    let h = neither (tooHigh (addedIn bytes .requested)) _ e in
+    (omega arith, omega arith, omega arith, omega (arith, in-range _ (h .0)), omega (arith, in-range _ (h .1)))
 
 -- what the reader takes fits 32 bits
 pub narrow : (bytes : List ℕ) (f : Fields) → readOf bytes ≡ Took f → Narrow (f .form)

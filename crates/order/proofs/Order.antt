@@ -14,14 +14,14 @@ use Rattle.lists.proofs.Tests.{not-leb}
 use Rattle.power.specs.Power.{over, fits}
 use Rattle.power.specs.declared.Power.{Power}
 use Rattle.class.specs.Class.{budgets, budgetOf}
-use Rattle.port.specs.States.{inDisabled, inPowerOn}
+use Rattle.port.specs.States.{inDisabled}
 use Rattle.port.specs.declared.form.State.{State}
 use Rattle.table.specs.Drawn.{closedSum}
 use Rattle.table.specs.Parts.{portAt}
 use Rattle.table.specs.WellMade.{illMade}
 use Rattle.cells.specs.Cells.{tableOf, isTable}
-use Rattle.cells.proofs.CodeLaws.{disabled-code, power-on-code}
-use Rattle.replies.specs.Calls.{sameAlternative, granting, overSupply}
+use Rattle.cells.proofs.CodeLaws.{disabled-code}
+use Rattle.replies.specs.Calls.{sameAlternative, levelOf, overClass, granting, overSupply}
 use Rattle.replies.specs.Rest.{AtPort}
 use Rattle.replies.proofs.OnLaws.{state-at, control-at, demand-at, class-at}
 use Rattle.well.specs.Judged.{wellCells}
@@ -74,14 +74,10 @@ module _ (l : List ℕ) (p : ℕ) (a : AtPort l p) where
       ap₂ (λ (x : ℕ) (s : State). not (sameAlternative x w) && not (inDisabled s)) (control-at l p a) (state-at l p a)
       ∙ ap (λ (b : Bool). not (eqb (getD l (56 + p) 0 / 4 % 4) (w / 4 % 4)) && not b) (disabled-code (getD l (8 + p) 0))
 
-  -- "for a port in POWER_ON (else 5)"
-  pub power-on-at : inPowerOn (portAt (tableOf l) p .state) ≡ eqb (getD l (8 + p) 0) 6
-  power-on-at = ap inPowerOn (state-at l p a) ∙ power-on-code (getD l (8 + p) 0)
-
-  -- "Over the class budget: 11."
-  pub class-over : (d : Power) → over d (budgetOf (portAt (tableOf l) p .class)) ≡ ltb (getD budgets (getD l (152 + p) 0) 0) (d .0)
-  unfolding over budgetOf
-  class-over d = ap (λ (k : ℕ). ltb (getD budgets k 0) (d .0)) (class-at l p a)
+  -- "Over the class budget: 11."; "11 for 256 to 999"
+  pub class-over : (v : ℕ) → overClass v (portAt (tableOf l) p .class) ≡ (ltb 255 v || ltb (getD budgets (getD l (152 + p) 0) 0) (levelOf v .0))
+  unfolding overClass over budgetOf
+  class-over v = ap (λ (k : ℕ). ltb 255 v || ltb (getD budgets k 0) (levelOf v .0)) (class-at l p a)
 
   -- "a higher one exactly if all closed ports' demands with the change are at most the stored supply, else 12"
   pub supply-over : (d : Power) → overSupply d p (tableOf l) ≡ (ltb (getD l (104 + p) 0) (d .0) && ltb (getD l 1 0) (closedSum (granting d p (tableOf l))))

@@ -61,6 +61,7 @@ fn demands_with(cells: &[u16], at: usize, level: u16) -> u64
     sum
 }
 
+// Request [4] of document 02: "A request gives 10 for 0 or above 999, and 11 for 256 to 999, after the state check as before."
 // "Request: 2, 10, 5, 11, 12."; "A demand not above the present one is accepted; a higher one exactly if .. at most the stored supply".
 pub fn request_number(cells: &[u16], port: u64, value: u64) -> u8
     ensures { λ r. ⌜ r ≡ firstNumber (requestList (now (cells .entry)) port value) ⌝ }
@@ -71,7 +72,7 @@ pub fn request_number(cells: &[u16], port: u64, value: u64) -> u8
     if cells[0] as u64 <= port {
         return 2;
     }
-    if (value < 1) | (255 < value) {
+    if (value == 0) | (999 < value) {
         return 10;
     }
     let p = port as usize;
@@ -80,7 +81,7 @@ pub fn request_number(cells: &[u16], port: u64, value: u64) -> u8
     }
     let asked = level(value);
     let class = cells[152 + p] as usize;
-    if BUDGETS[class] < asked {
+    if (255 < value) | (BUDGETS[class] < asked) {
         return 11;
     }
     if (cells[104 + p] < asked) & ((cells[1] as u64) < demands_with(cells, p, asked)) {

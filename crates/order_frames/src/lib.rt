@@ -8,7 +8,7 @@ ghost use Prim.Native.Nat.{_+_, _<_, _≤_, _^_};
 ghost use lib.ListN.{length};
 ghost use Rattle.lists.specs.Bytes.{wordAt};
 ghost use Rattle.lists.specs.Bits.{one};
-ghost use Rattle.fields.specs.Fields.{outside};
+ghost use Rattle.fields.specs.Fields.{tooHigh};
 ghost use Rattle.header.specs.Header.{sizeAt, isPower};
 ghost use Rattle.reader.specs.Read.{readRefusals};
 ghost use Rattle.search.specs.Search.{searchRefusals};
@@ -88,11 +88,11 @@ pub fn search_number(pdu: &[u8]) -> u8
     counted(powers)
 }
 
-// "power value outside 1..255"
+// Request [4] of document 02: "Reading and writing a TLV now give refusal 10 only above 999."
 fn bad_value(value: u64) -> bool
-    ensures { λ r. ⌜ r ≡ outside value ⌝ }
+    ensures { λ r. ⌜ r ≡ tooHigh value ⌝ }
 {
-    (value < 1) | (255 < value)
+    999 < value
 }
 
 // "Reading a TLV: 6, 9, 10."; "fewer than two bytes, or fewer than the header says, are 6; bytes left over are 9"; "of length 7 or 12".

@@ -12,13 +12,14 @@ use Rattle.sizes.specs.Sizes.{mostPorts}
 use Rattle.lists.specs.Ladder.{ladder}
 use Rattle.power.specs.Power.{tenths}
 use Rattle.power.specs.declared.Power.{Power}
-use Rattle.port.specs.States.{closed}
+use Rattle.port.specs.States.{closed, inPowerOn}
 use Rattle.port.specs.declared.form.Port.{Port}
 use Rattle.table.specs.Drawn.{draws}
 use Rattle.table.specs.Parts.{portAt, withPort, done, refuse, refuseStatus}
 use Rattle.table.specs.WellMade.{illMade}
 use Rattle.cells.specs.Cells.{countCell, portOf, tableOf, isTable, cellsWith}
 use Rattle.cells.specs.Codes.{stateOf, latchByte, latchesOf}
+use Rattle.cells.proofs.CodeLaws.{power-on-code}
 use Rattle.cells.proofs.Laws.{table-at}
 use Rattle.cells.proofs.Single.{single, with-port-same, with-port-other}
 use Rattle.well.specs.Judged.{wellCells}
@@ -54,6 +55,10 @@ module _ (l : List ℕ) (p : ℕ) (a : AtPort l p) where
   pub latches-at : portAt (tableOf l) p .latches ≡ latchesOf (getD l (200 + p) 0)
   unfolding portOf
   latches-at = ap (λ (x : Port). x .latches) port-at
+
+  -- "for a port in POWER_ON (else 5)", asked of its cell
+  pub power-on-at : inPowerOn (portAt (tableOf l) p .state) ≡ eqb (getD l (8 + p) 0) 6
+  power-on-at = ap inPowerOn state-at ∙ power-on-code (getD l (8 + p) 0)
 
 module _ {X : Type 0} (l : List ℕ) (p : ℕ) (rs : List (ℕ × Bool)) (refuse : ℕ → X) (value : X) (e : wellCells l ≡ true) where
   -- every call that names a port

@@ -4,7 +4,7 @@ use mathlib.Core.Bool.{Bool, cond, not, _&&_, _||_}
 use mathlib.Core.List.{List, [], _∷_}
 use lib.Dec.{leb, ltb, eqb}
 use lib.ListN.{replicate}
-use Rattle.sizes.specs.Sizes.{mostPorts}
+use Rattle.sizes.specs.Sizes.{mostPorts, mostValue}
 use Rattle.lists.specs.Bits.{field}
 use Rattle.lists.specs.Ladder.{ladder}
 use Rattle.power.specs.Power.{zeroPower, over, fits, sumOf}
@@ -78,6 +78,10 @@ readStatus t p = ladder (statusRefusals t p) (λ k. refuseStatus k t) (statusAt 
 unfoldable pub levelOf : ℕ → Power
 levelOf v = budgetOf (cond (leb v 38) 1 (cond (leb v 64) 2 (cond (leb v 129) 3 4)))
 
+-- "Over the class budget: 11."; request [4] of document 02: "11 for 256 to 999"
+unfoldable pub overClass : ℕ → ℕ → Bool
+overClass v class = ltb 255 v || over (levelOf v) (budgetOf class)
+
 unfoldable pub demanding : Power → Port → Port
 demanding d p = withDemand d p
 
@@ -90,14 +94,15 @@ granting d p t = withPort p (demanding d (portAt t p)) t
 unfoldable pub overSupply : Power → ℕ → Table → Bool
 overSupply d p t = over d (portAt t p .demand) && not (fits (sumOf (closedSum (granting d p t))) (t .supply))
 
--- "Request: 2, 10, 5, 11, 12."; refusal 10, "power value outside 1..255"; "for a port in POWER_ON (else 5)"; "Over the class budget: 11."
+-- "Request: 2, 10, 5, 11, 12."; "for a port in POWER_ON (else 5)"; request [4], where document 01 has "power value outside 1..255":
+-- "A request gives 10 for 0 or above 999, and 11 for 256 to 999, after the state check as before."
 abbrev pub requestRefusals : Table → ℕ → ℕ → List (ℕ × Bool)
 requestRefusals t p v =
     (13, illMade t)
     ∷ (2, leb (t .count) p)
-    ∷ (10, ltb v 1 || ltb 255 v)
+    ∷ (10, eqb v 0 || ltb mostValue v)
     ∷ (5, not (inPowerOn (portAt t p .state)))
-    ∷ (11, over (levelOf v) (budgetOf (portAt t p .class)))
+    ∷ (11, overClass v (portAt t p .class))
     ∷ (12, overSupply (levelOf v) p t)
     ∷ []
 

@@ -3,6 +3,7 @@
 use class::budget;
 use power::Power;
 use power::Sum;
+use sizes::MOST_VALUE;
 use sizes::refusals;
 use table::form::Answer;
 use well::well_made;
@@ -15,7 +16,7 @@ ghost use Rattle.table.specs.Drawn.{closedSum};
 ghost use Rattle.cells.specs.Cells.{tableOf};
 ghost use Rattle.cells.specs.Codes.{stateOf};
 ghost use Rattle.cells.specs.Lent.{cellsTold};
-ghost use Rattle.replies.specs.Calls.{levelOf, granting, overSupply};
+ghost use Rattle.replies.specs.Calls.{levelOf, overClass, granting, overSupply};
 ghost use Rattle.replies.specs.OnCells.{requestOn};
 ghost use Rattle.replies.specs.Rest.{AtPort, requestRest};
 
@@ -33,6 +34,16 @@ fn level_of(value: u64) -> Power
         return budget(3);
     }
     budget(4)
+}
+
+// What is above 255 is over every class.
+fn over_class(value: u64, class: u8) -> bool
+    ensures { λ r. ⌜ r ≡ overClass value class ⌝ }
+{
+    if 255 < value {
+        return true;
+    }
+    !level_of(value).at_most(budget(class))
 }
 
 // A port is closed exactly in POWER_UP, POWER_ON and TEST_MODE, by their codes.
@@ -85,19 +96,18 @@ fn requested(cells: &mut [u16], p: usize, value: u64) -> Answer
     ensures { λ r. ⌜ r ≡ requestRest (now (cells .entry)) p value .answer ⌝ }
     ensures { λ _. ⌜ now (cells .exit) ≡ cellsTold (requestRest (now (cells .entry)) p value) (now (cells .entry)) ⌝ }
 {
-    if value < 1 {
+    if (value == 0) | (MOST_VALUE < value) {
         return Answer::Refused(refusals::BAD_VALUE);
     }
-    if 255 < value {
-        return Answer::Refused(refusals::BAD_VALUE);
-    }
-    if cells[8 + p] != 6 {
+    let on = cells[8 + p] == 6;
+    let over = over_class(value, cells[152 + p] as u8);
+    if !on {
         return Answer::Refused(refusals::WRONG_STATE);
     }
-    let level = level_of(value);
-    if !level.at_most(budget(cells[152 + p] as u8)) {
+    if over {
         return Answer::Refused(refusals::OVER_CLASS);
     }
+    let level = level_of(value);
     if too_much(cells, p, level) {
         return Answer::Refused(refusals::OVER_SUPPLY);
     }

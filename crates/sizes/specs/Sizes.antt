@@ -1,4 +1,4 @@
--- The numbers of document 01 that several rules name.
+-- The numbers of document 01, and of a request of document 02, that several rules name.
 -- Assumes nothing.
 use Prim.Native.Nat.{ℕ}
 
@@ -17,3 +17,7 @@ mostCount = 2000
 -- "supply figure over 60,000"
 abbrev pub mostSupply : ℕ
 mostSupply = 60000
+
+-- request [4] of document 02, where document 01 has "1..255": a power value is "0 through 999"
+abbrev pub mostValue : ℕ
+mostValue = 999

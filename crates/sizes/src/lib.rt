@@ -15,6 +15,9 @@ pub const SAMPLE: usize = 14;
 // A counter "adds one each tick but stops at 2,000".
 pub const MOST_COUNT: u16 = 2_000;
 
+// Request [4] of document 02: a power value is "0 through 999".
+pub const MOST_VALUE: u64 = 999;
+
 // The lent table: 8 cells of head, and 15 fields of each place.
 pub const CELLS: usize = 8 + 15 * PORTS;
 

@@ -27,10 +27,10 @@ pub const SEVERAL_TLVS: u8 = 8;
 // "the bytes aren't exactly one power TLV of length 7 or 12"
 pub const NOT_ONE_TLV: u8 = 9;
 
-// "power value outside 1..255"
+// Request [4] of document 02, where document 01 has "power value outside 1..255": of a TLV "only above 999", of a request "0 or above 999"
 pub const BAD_VALUE: u8 = 10;
 
-// "request over the port's class"
+// "request over the port's class", by request [4] "256 to 999" too
 pub const OVER_CLASS: u8 = 11;
 
 // "request doesn't fit the supply"

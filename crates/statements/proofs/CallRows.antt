@@ -16,7 +16,7 @@ use Rattle.status.specs.Status.{noLatches, statusWord}
 use Rattle.port.specs.declared.form.State.{State}
 use Rattle.port.specs.declared.form.State.the-variants.{Disabled, Idle, Detecting, Backoff, Classifying, PowerUp, PowerOn, ErrorDelay, TestMode, TestError}
 use Rattle.port.specs.States.{condition}
-use Rattle.replies.specs.Calls.{coldTable, coldStart, sameAlternative, withControl, writeControl, unlatched, statusAt, readStatus, levelOf, demanding, overSupply, request}
+use Rattle.replies.specs.Calls.{coldTable, coldStart, sameAlternative, withControl, writeControl, unlatched, statusAt, readStatus, levelOf, overClass, demanding, overSupply, request}
 use Rattle.table.specs.Drawn.{draws, closedSum}
 use Rattle.table.specs.Parts.{zeroCounts, portAt, withPort, done, refuse, tells, refuseStatus, refuseTick}
 use Rattle.boards.specs.Masks.{answered}
@@ -34,7 +34,7 @@ unfolding tables wellMade illMade illPort over someBelow portAt refused field ab
 tables-hold = refl
 
 pub calls-hold : map (λ (r : Question × Outcome). meaning (r .0)) calls ≡ map (λ (r : Question × Outcome). r .1) calls
-unfolding calls meaning coldStart coldTable done refuse writeControl sameAlternative withControl withPort request overSupply demanding levelOf budgetOf closedSum draws total fits illMade illPort over someBelow portAt refused field above isDemand some readStatus statusAt tells refuseStatus tick flagsReserved reservedFlags sampleAt wordAt refuseTick answered
+unfolding calls meaning coldStart coldTable done refuse writeControl sameAlternative withControl withPort request overSupply overClass demanding levelOf budgetOf closedSum draws total fits illMade illPort over someBelow portAt refused field above isDemand some readStatus statusAt tells refuseStatus tick flagsReserved reservedFlags sampleAt wordAt refuseTick answered
 calls-hold = refl
 
 -- "value 1..38 means demand 40, ..64 means 70, ..129 means 154, ..255 means 300"
@@ -56,5 +56,5 @@ status-clears = refl
 
 -- "Accepted, it becomes the port's demand; nothing else changes."
 pub request-changes-its-demand : request (table 2 300 (port PowerOn 3 0x0005 40 zeroCounts) latched) 0 129 ≡ record { table = table 2 300 (port PowerOn 3 0x0005 154 zeroCounts) latched; answer = Done }
-unfolding request overSupply demanding levelOf budgetOf closedSum draws total fits done withPort illMade illPort over someBelow portAt refused field above isDemand some
+unfolding request overSupply overClass demanding levelOf budgetOf closedSum draws total fits done withPort illMade illPort over someBelow portAt refused field above isDemand some
 request-changes-its-demand = refl

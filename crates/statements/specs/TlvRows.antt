@@ -38,11 +38,23 @@ reading-rows =
     -- "7:6 type, 5:4 source, 3:2 .. ignored when read, 1:0 priority"
     ∷ (long 0b10010011 0 38 0 64, Is (fields 2 1 3 38 64))
     ∷ (long 0b01101101 0 1 0 255, Is (fields 1 2 1 1 255))
-    -- "1..255"
-    ∷ (long 0b10010011 0 0 0 64, Refused 10)
-    ∷ (long 0b10010011 1 0 0 64, Refused 10)
-    ∷ (long 0b10010011 0 38 0 0, Refused 10)
-    ∷ (long 0b10010011 0 38 1 0, Refused 10)
+    -- request [4], "0 through 999": 0, 1, 255, 256, 999, 1,000 and 65,535, of the one value and of the other
+    ∷ (long 0b10010011 0 0 0 64, Is (fields 2 1 3 0 64))
+    ∷ (long 0b10010011 0 1 0 64, Is (fields 2 1 3 1 64))
+    ∷ (long 0b10010011 0 255 0 64, Is (fields 2 1 3 255 64))
+    ∷ (long 0b10010011 1 0 0 64, Is (fields 2 1 3 256 64))
+    ∷ (long 0b10010011 0x03 0xE7 0 64, Is (fields 2 1 3 999 64))
+    ∷ (long 0b10010011 0x03 0xE8 0 64, Refused 10)
+    ∷ (long 0b10010011 255 255 0 64, Refused 10)
+    ∷ (long 0b10010011 0 38 0 0, Is (fields 2 1 3 38 0))
+    ∷ (long 0b10010011 0 38 0 1, Is (fields 2 1 3 38 1))
+    ∷ (long 0b10010011 0 38 0 255, Is (fields 2 1 3 38 255))
+    ∷ (long 0b10010011 0 38 1 0, Is (fields 2 1 3 38 256))
+    ∷ (long 0b10010011 0 38 0x03 0xE7, Is (fields 2 1 3 38 999))
+    ∷ (long 0b10010011 0 38 0x03 0xE8, Refused 10)
+    ∷ (long 0b10010011 0 38 255 255, Refused 10)
+    -- "Reading a TLV: 6, 9, 10.": a value too high in a TLV with a byte left over
+    ∷ (0xFE ∷ 0x0C ∷ 0x00 ∷ 0x12 ∷ 0x0F ∷ 0x02 ∷ 0x0A ∷ 0x0B ∷ 0x0C ∷ 0x52 ∷ 0x03 ∷ 0xE8 ∷ 0x00 ∷ 0x40 ∷ 0x00 ∷ [], Refused 9)
     -- "exactly one power TLV of length 7 or 12": a byte left over; length 8; another OUI; another subtype
     ∷ (short (0 ∷ []), Refused 9)
     ∷ (0xFE ∷ 0x08 ∷ 0x00 ∷ 0x12 ∷ 0x0F ∷ 0x02 ∷ 0x0A ∷ 0x0B ∷ 0x0C ∷ 0x00 ∷ [], Refused 9)
@@ -70,12 +82,24 @@ writing-rows =
     -- "3:2 sent as zero"
     ∷ (writes (fields 2 1 3 38 64) 14, (Wrote 14, long 0b10010011 0 38 0 64))
     ∷ (writes (fields 1 2 1 1 255) 14, (Wrote 14, long 0b01100001 0 1 0 255))
+    -- request [4], "0 through 999"
+    ∷ (writes (fields 2 1 3 0 64) 14, (Wrote 14, long 0b10010011 0 0 0 64))
+    ∷ (writes (fields 2 1 3 256 64) 14, (Wrote 14, long 0b10010011 1 0 0 64))
+    ∷ (writes (fields 2 1 3 999 64) 14, (Wrote 14, long 0b10010011 0x03 0xE7 0 64))
+    ∷ (writes (fields 2 1 3 1000 64) 14, (NotWritten 10, room 14))
+    ∷ (writes (fields 2 1 3 65535 64) 14, (NotWritten 10, room 14))
+    ∷ (writes (fields 2 1 3 38 0) 14, (Wrote 14, long 0b10010011 0 38 0 0))
+    ∷ (writes (fields 2 1 3 38 1) 14, (Wrote 14, long 0b10010011 0 38 0 1))
+    ∷ (writes (fields 2 1 3 38 256) 14, (Wrote 14, long 0b10010011 0 38 1 0))
+    ∷ (writes (fields 2 1 3 38 999) 14, (Wrote 14, long 0b10010011 0 38 0x03 0xE7))
+    ∷ (writes (fields 2 1 3 38 1000) 14, (NotWritten 10, room 14))
+    ∷ (writes (fields 2 1 3 38 65535) 14, (NotWritten 10, room 14))
+    ∷ (writes (fields 2 1 3 66535 64) 14, (NotWritten 10, room 14))
     -- "Writing: 3, 10, 1.", each number before the next
-    ∷ (writes (fields 4 0 0 0 0) 0, (NotWritten 3, []))
+    ∷ (writes (fields 4 0 0 1000 0) 0, (NotWritten 3, []))
     ∷ (writes (fields 0 4 0 1 1) 14, (NotWritten 3, room 14))
     ∷ (writes (fields 0 0 4 1 1) 14, (NotWritten 3, room 14))
-    ∷ (writes (fields 3 3 3 0 1) 13, (NotWritten 10, room 13))
-    ∷ (writes (fields 3 3 3 1 256) 14, (NotWritten 10, room 14))
-    ∷ (writes (fields 3 3 3 1 255) 13, (NotWritten 1, room 13))
+    ∷ (writes (fields 3 3 3 1000 1) 13, (NotWritten 10, room 13))
+    ∷ (writes (fields 3 3 3 1 999) 13, (NotWritten 1, room 13))
     ∷ (writes short-fields 8, (NotWritten 1, room 8))
     ∷ []

@@ -5,7 +5,7 @@ use mathlib.Core.List.{[], _∷_, _++_, map}
 use lib.ListN.{take}
 use Rattle.lists.specs.Bytes.{wordAt}
 use Rattle.lists.specs.Bits.{field}
-use Rattle.fields.specs.Fields.{outside, badValues}
+use Rattle.fields.specs.Fields.{tooHigh, badValues}
 use Rattle.header.specs.Header.{typeAt, lengthAt, sizeAt, standsAt, fixedAt, isPower}
 use Rattle.reader.specs.Read.{cut, exactlyOne, addedIn, formIn, fieldsIn, readOf}
 use Rattle.search.specs.Search.{isCut, powers, searchOf}
@@ -16,7 +16,7 @@ use Rattle.search.specs.declared.Searched.the-variants.{Is as Found, Refused}
 use Rattle.tlv.specs.Cases.{wholeBytes, wholeFields}
 
 pub whole-reads : readOf wholeBytes ≡ Is wholeFields
-unfolding readOf cut exactlyOne fieldsIn formIn addedIn badValues outside isPower fixedAt standsAt typeAt lengthAt sizeAt wordAt field
+unfolding readOf cut exactlyOne fieldsIn formIn addedIn badValues tooHigh isPower fixedAt standsAt typeAt lengthAt sizeAt wordAt field
 whole-reads = refl
 
 pub whole-written : bytesOf wholeFields ≡ wholeBytes
@@ -51,5 +51,5 @@ searches = refl
 
 -- bytes handed to the reader, in this order: none; fewer than the header says, of another type too; a byte left over; another type
 pub readings : map readOf ([] ∷ take 13 wholeBytes ∷ (0x02 ∷ 0x01 ∷ []) ∷ (wholeBytes ++ (0x00 ∷ [])) ∷ (0x00 ∷ 0x00 ∷ []) ∷ []) ≡ No 6 ∷ No 6 ∷ No 6 ∷ No 9 ∷ No 9 ∷ []
-unfolding readOf cut exactlyOne fieldsIn formIn addedIn badValues outside isPower fixedAt standsAt typeAt lengthAt sizeAt wordAt field
+unfolding readOf cut exactlyOne fieldsIn formIn addedIn badValues tooHigh isPower fixedAt standsAt typeAt lengthAt sizeAt wordAt field
 readings = refl

@@ -1,18 +1,20 @@
--- "Whatever is written reads back as written".
+-- "Whatever is written reads back as written", and every value from 0 through 999 is written.
 -- Assumes nothing.
-use mathlib.Core.Path.{_≡_, _∙_, refl, ap}
+use mathlib.Core.Path.{_≡_, _∙_, refl, sym, ap}
 use mathlib.Core.Bool.{false}
 use Prim.Native.Nat.{ℕ, _+_, _*_, _/_, _%_}
 use native.Mathlib.Nat.{div-one}
 use native.Mathlib.Omega.{arith}
 use lib.ListN.{length, take, drop}
 use lib.Seq.{take-at}
+use borrow.Author.Tests.{le-ltb}
 use Rattle.lists.specs.Bytes.{wordAt}
 use Rattle.lists.specs.Bits.{field}
 use Rattle.lists.proofs.Ladder.{ladder-value}
 use Rattle.fields.specs.Fields.{badValues}
 use Rattle.header.specs.Header.{typeAt, lengthAt, sizeAt, standsAt, fixedAt, isPower}
-use Rattle.tlv.specs.Laws.{WrittenReads}
+use Rattle.fields.proofs.Values.{not-high}
+use Rattle.tlv.specs.Laws.{WrittenReads, EveryValue}
 use Rattle.reader.specs.Read.{cut, exactlyOne, addedIn, formIn, fieldsIn, readOf}
 use Rattle.writer.specs.Write.{badCodes, bytesOf, writeRefusals, writtenOf, roomAfter, left}
 use Rattle.fields.specs.declared.Fields.{Fields}
@@ -23,6 +25,7 @@ use Rattle.reader.specs.declared.ReadAnswer.the-variants.{Is}
 use Rattle.writer.specs.declared.Written.{Written}
 use Rattle.writer.specs.declared.Written.the-variants.{Is as Wrote, Refused}
 use Rattle.writer.proofs.InRange.{codes}
+use Rattle.writer.proofs.Stored.{accept, size-long}
 
 -- a number of two bytes
 value : (v : ℕ) → 256 * (v / 256) + v % 256 ≡ v
@@ -55,3 +58,12 @@ written-reads f room n e =
     ap (λ (w : Written). readOf (take n (left w f room))) e
     ∙ ap readOf (take-at (bytesOf f) (drop n room) n size)
     ∙ reads (f .support) (f .pair) (f .class) (f .form) (h .0 .0) (h .0 .1 .0)
+
+-- what has codes up to 3 and values in range is not refused
+pub every-value : EveryValue
+unfolding badCodes badValues
+every-value f a e kind source priority requested allocated room much =
+    let good : badCodes (f .form) ≡ false = simp (e, le-ltb 3 _ kind, le-ltb 3 _ source, le-ltb 3 _ priority) in
+    let values : badValues (f .form) ≡ false = simp (e, not-high _ requested, not-high _ allocated) in
+    let written = sym (accept f room good values 14 (size-long f a e) much _ refl .0) in
+    (written, written-reads f room 14 written)

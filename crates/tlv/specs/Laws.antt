@@ -1,10 +1,11 @@
--- What holds of the reader, the writer and the search together, over both forms of the power TLV. Proved in proofs/Back, Again and Boundary.
+-- What holds of the reader, the writer and the search together, over both forms of the power TLV. Proved in proofs/WrittenReads, ReadRewrites and Boundary.
 use mathlib.Core.Path.{_≡_}
 use mathlib.Core.Bool.{Bool, true}
 use mathlib.Core.List.{List, _++_}
 use Prim.Native.Nat.{ℕ, _+_, _≤_}
 use lib.Dec.{ltb}
 use lib.ListN.{length, getD, take, drop}
+use Rattle.sizes.specs.Sizes.{mostValue}
 use Rattle.lists.specs.Bits.{field}
 use Rattle.lists.specs.Entries.{all}
 use Rattle.header.specs.Header.{sizeAt, isPower}
@@ -13,6 +14,8 @@ use Rattle.search.specs.Search.{searchOf}
 use Rattle.walk.specs.Walk.{stepOf}
 use Rattle.writer.specs.Write.{writtenOf, roomAfter}
 use Rattle.fields.specs.declared.Fields.{Fields}
+use Rattle.fields.specs.declared.Form.the-variants.{Long}
+use Rattle.fields.specs.declared.Added.{Added}
 use Rattle.reader.specs.declared.ReadAnswer.the-variants.{Is as ReadAnswer}
 use Rattle.walk.specs.declared.Step.the-variants.{Tlv}
 use Rattle.search.specs.declared.Searched.the-variants.{Is as Found}
@@ -21,6 +24,12 @@ use Rattle.writer.specs.declared.Written.the-variants.{Is as Wrote}
 -- "Whatever is written reads back as written"
 abbrev pub WrittenReads : Type 0
 WrittenReads = (f : Fields) (room : List ℕ) (n : ℕ) → writtenOf f room ≡ Wrote n → readOf (take n (roomAfter f room)) ≡ ReadAnswer f
+
+-- request [4] of document 02, "0 through 999": each such value is written, whatever the other fields, and reads back
+abbrev pub EveryValue : Type 0
+EveryValue =
+    (f : Fields) (a : Added) → f .form ≡ Long a → a .kind ≤ 3 → a .source ≤ 3 → a .priority ≤ 3 → a .requested ≤ mostValue → a .allocated ≤ mostValue
+    → (room : List ℕ) → 14 ≤ length room → (writtenOf f room ≡ Wrote 14) × (readOf (take 14 (roomAfter f room)) ≡ ReadAnswer f)
 
 abbrev pub isByte : ℕ → Bool
 isByte x = ltb x 256

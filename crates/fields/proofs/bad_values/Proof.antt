@@ -1,4 +1,4 @@
--- `bad_values` is `badValues`: each arm knows the form, and the first value outside decides.
+-- `bad_values` is `badValues`: each arm knows the form, and the first value that is too high decides.
 -- Assumes nothing.
 use mathlib.Core.Path.{_∙_, sym}
 use borrow.Author.Needs.{needs}
@@ -14,7 +14,7 @@ bad-values-spec =
     (λ c. search needs)
     (λ c. search needs)
     (λ c κs. search needs)
-    (λ c. simp (c .before .before .before .form .given .1, sym (c .before .outside .ensures) ∙ c .if1 .taken))
+    (λ c. simp (c .before .before .before .form .given .1, sym (c .before .too-high .ensures) ∙ c .if1 .taken))
     (λ c κs. search needs)
     (λ c. simp (c .enum-told .given .1))
-    (λ c. simp (c .before .before .before .before .form .given .1, sym (c .before .before .outside .ensures) ∙ c .before .if1 .left, c .outside2 .ensures)))
+    (λ c. simp (c .before .before .before .before .form .given .1, sym (c .before .before .too-high .ensures) ∙ c .before .if1 .left, c .too-high2 .ensures)))

@@ -3,7 +3,7 @@ use mathlib.Core.Path.{_≡_, sym, _∙_, ap, ap₂}
 use mathlib.Core.Bool.{_||_}
 use borrow.Author.Tests.{lt-ltb, le-ltb}
 use denote.Ref.{now}
-use Rattle.fields.specs.Fields.{outside, badValues}
+use Rattle.fields.specs.Fields.{tooHigh, badValues}
 use Rattle.reader.specs.Read.{cut, addedIn, formIn}
 use Rattle.order_frames.proofs.Headers.{size-is, not-cut, not-one, fourteen, short-form, long-form}
 use borrow.Author.Needs.{needs}
@@ -62,7 +62,7 @@ read-number-spec =
     let if2 = c .before .before .before .before .before .before .before .before .if2 in
     let if3 = c .before .before .before .before .before .before .if3 in
     let values : badValues (formIn (now (a .bytes))) ≡ (bad-value .result || c .before .bad-value2 .result) =
-    ap badValues (long-form (now (a .bytes)) (word-at .result) (power-at .result) (word-at .ensures .0) (power-at .ensures .0) (if4 .left)) ∙ ap₂ _||_ (ap outside (sym (word-at2 .ensures .0)) ∙ sym (bad-value .ensures)) (ap outside (sym (c .before .before .word-at3 .ensures .0)) ∙ sym (c .before .bad-value2 .ensures)) in
+    ap badValues (long-form (now (a .bytes)) (word-at .result) (power-at .result) (word-at .ensures .0) (power-at .ensures .0) (if4 .left)) ∙ ap₂ _||_ (ap tooHigh (sym (word-at2 .ensures .0)) ∙ sym (bad-value .ensures)) (ap tooHigh (sym (c .before .before .word-at3 .ensures .0)) ∙ sym (c .before .bad-value2 .ensures)) in
     simp (not-cut (now (a .bytes)) (word-at .result) (power-at .result) (word-at .ensures .0) (power-at .ensures .0) (if1 .left) (if2 .left), sym (not-one (now (a .bytes)) (word-at .result) (power-at .result) (word-at .ensures .0) (power-at .ensures .0)) ∙ if3 .left, values ∙ c .if5 .taken))
     (λ c.
     let a = c .before .before .before .before .before .before .before .before .before .before .before .before .args in
@@ -75,5 +75,5 @@ read-number-spec =
     let if2 = c .before .before .before .before .before .before .before .before .if2 in
     let if3 = c .before .before .before .before .before .before .if3 in
     let values : badValues (formIn (now (a .bytes))) ≡ (bad-value .result || c .before .bad-value2 .result) =
-    ap badValues (long-form (now (a .bytes)) (word-at .result) (power-at .result) (word-at .ensures .0) (power-at .ensures .0) (if4 .left)) ∙ ap₂ _||_ (ap outside (sym (word-at2 .ensures .0)) ∙ sym (bad-value .ensures)) (ap outside (sym (c .before .before .word-at3 .ensures .0)) ∙ sym (c .before .bad-value2 .ensures)) in
+    ap badValues (long-form (now (a .bytes)) (word-at .result) (power-at .result) (word-at .ensures .0) (power-at .ensures .0) (if4 .left)) ∙ ap₂ _||_ (ap tooHigh (sym (word-at2 .ensures .0)) ∙ sym (bad-value .ensures)) (ap tooHigh (sym (c .before .before .word-at3 .ensures .0)) ∙ sym (c .before .bad-value2 .ensures)) in
     simp (not-cut (now (a .bytes)) (word-at .result) (power-at .result) (word-at .ensures .0) (power-at .ensures .0) (if1 .left) (if2 .left), sym (not-one (now (a .bytes)) (word-at .result) (power-at .result) (word-at .ensures .0) (power-at .ensures .0)) ∙ if3 .left, values ∙ c .if5 .left)))

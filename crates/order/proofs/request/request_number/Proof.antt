@@ -1,22 +1,22 @@
 -- `request_number`: 13, and then 2, 10, 5, 11, 12. Assumes nothing.
 use mathlib.Core.Path.{_≡_, sym, _∙_, ap}
-use mathlib.Core.Bool.{false, _&&_}
+use mathlib.Core.Bool.{false, _&&_, _||_}
 use Prim.Native.Nat.{ℕ, _+_}
-use borrow.Author.Tests.{le-leb, lt-leb, lt-ltb, le-ltb, eq-eqb, ne-eqb}
+use borrow.Author.Tests.{le-leb, lt-leb, eq-eqb, ne-eqb}
 use lib.Dec.{ltb}
 use denote.Ref.{now}
 use lib.ListN.{getD, drop}
 use Rattle.cells.specs.Cells.{tableOf}
 use Rattle.ill.specs.Ill.{illCells}
 use Rattle.interface.specs.Statement1C.{firstNumber, requestList}
-use Rattle.power.specs.Power.{tenths, over}
-use Rattle.class.specs.Class.{budgets, budgetOf}
+use Rattle.power.specs.Power.{tenths}
+use Rattle.class.specs.Class.{budgets}
 use Rattle.table.specs.Drawn.{closedSum}
 use Rattle.table.specs.Parts.{portAt}
-use Rattle.replies.specs.Calls.{levelOf, granting, overSupply, requestRefusals}
+use Rattle.replies.specs.Calls.{levelOf, overClass, granting, overSupply, requestRefusals}
 use Rattle.replies.specs.Rest.{AtPort}
-use Rattle.replies.proofs.OnLaws.{at-port}
-use Rattle.order.proofs.Order.{ill-first, well-first, well-of, well-cells-of, power-on-at, class-over, supply-over}
+use Rattle.replies.proofs.OnLaws.{at-port, power-on-at}
+use Rattle.order.proofs.Order.{ill-first, well-first, well-of, well-cells-of, class-over, supply-over}
 use borrow.Author.Needs.{needs}
 use native.Mathlib.Omega.{arith}
 use Rattle.order.proofs.request.request_number.Statement.{statement}
@@ -53,11 +53,12 @@ past4 c = past3 (c .before .before) ∙ simp (power-on-at _ _ (at (c .before .be
 
 -- the level is over the class's budget, and over what the supply has left for it
 over-class : (c : tie.After-level)
-    → over (levelOf (c .before .before .before .before .before .before .before .before .before .args .value)) (budgetOf (portAt (tableOf (now (c .before .before .before .before .before .before .before .before .before .args .cells))) (c .before .before .before .before .before .before .before .before .before .args .port) .class))
-    ≡ ltb (getD budgets (getD (now (c .before .before .before .before .before .before .before .before .before .args .cells)) (152 + c .before .before .before .before .before .before .before .before .before .args .port) 0) 0) (c .level .result)
+    → overClass (c .before .before .before .before .before .before .before .before .before .args .value) (portAt (tableOf (now (c .before .before .before .before .before .before .before .before .before .args .cells))) (c .before .before .before .before .before .before .before .before .before .args .port) .class)
+    ≡ (ltb 255 (c .before .before .before .before .before .before .before .before .before .args .value) || ltb (getD budgets (getD (now (c .before .before .before .before .before .before .before .before .before .args .cells)) (152 + c .before .before .before .before .before .before .before .before .before .args .port) 0) 0) (c .level .result))
 over-class c =
     let s = c .before .before .before .before .before .before .before .before .before in
-    class-over _ _ (at (c .before .before .before .before)) (levelOf (s .args .value)) ∙ ap (ltb (getD budgets (getD (now (s .args .cells)) (152 + s .args .port) 0) 0)) (sym (c .level .ensures))
+    class-over _ _ (at (c .before .before .before .before)) (s .args .value)
+    ∙ ap (λ (d : ℕ). ltb 255 (s .args .value) || ltb (getD budgets (getD (now (s .args .cells)) (152 + s .args .port) 0) 0) d) (sym (c .level .ensures))
 
 over-supply : (c : tie.After-demands-with)
     → overSupply (levelOf (c .before .before .before .before .before .before .before .before .before .before .before .before .before .before .args .value)) (c .before .before .before .before .before .before .before .before .before .before .before .before .before .before .args .port) (tableOf (now (c .before .before .before .before .before .before .before .before .before .before .before .before .before .before .args .cells)))
@@ -73,7 +74,7 @@ over-supply c =
 
 past5 : (c : tie.Else5) → due (c .before .before .before .before .before .before .before .before .before .before .before) ≡ left 5 (c .before .before .before .before .before .before .before .before .before .before .before)
 unfolding tableOf
-past5 c = past4 (c .before .before .before) ∙ simp (over-class (c .before .before) ∙ le-ltb _ _ (c .if5 .left))
+past5 c = past4 (c .before .before .before) ∙ simp (over-class (c .before .before) ∙ c .if5 .left)
 
 pub request-number-spec : {M : Type 1} → statement M
 unfolding tableOf
@@ -97,7 +98,7 @@ request-number-spec =
     (λ c. omega (arith, c .shared-slice-known4 .given (152 + c .before .before .before .before .before .before .before .before .before .before .args .port)))
     (λ c. omega (arith, at (c .before .before .before .before .before) .class))
     (λ c. omega (arith, at (c .before .before .before .before .before) .class))
-    (λ c. sym (past4 (c .before .before .before) ∙ simp (over-class (c .before .before) ∙ lt-ltb _ _ (c .if5 .taken))))
+    (λ c. sym (past4 (c .before .before .before) ∙ simp (over-class (c .before .before) ∙ c .if5 .taken)))
     (λ c. let w = well-cells-of _ (fine (c .before .before .before .before .before .before .before .before)) in omega arith)
     (λ c. let w = well-cells-of _ (fine (c .before .before .before .before .before .before .before .before)) in omega arith)
     (λ c. let w = well-cells-of _ (fine (c .before .before .before .before .before .before .before .before .before)) in omega arith)
