@@ -10,6 +10,7 @@ use crate::lines::{bytes_of, Answer, Line};
 use crate::port::{control_reserved, Port, State, STATES};
 use crate::reading::{Sample, LOAD_PRESENT, RESERVED_FLAGS, SAMPLE_BYTES};
 use crate::table::Table;
+use crate::tlv::HIGHEST_VALUE;
 
 const FLAGS: [&str; 6] =
     ["detection done", "class done", "settled", "limiting", "overload", "load present"];
@@ -17,6 +18,20 @@ const FLAGS: [&str; 6] =
 /// A count of 49 with every place well-made, and a supply that is a control word.
 const CALLS_AT_49: [&str; 5] =
     ["tick, 48 samples", "tick, 49 samples", "status", "control", "request"];
+
+/// On both sides of each limit of a power value: of document 01's 255, and of
+/// request [4]'s 999.
+pub const LIMIT_VALUES: [u64; 7] = [0, 1, 255, 256, 999, 1_000, 65_535];
+
+/// Where a value is tried alone: nothing else of the line could be refused.
+const VALUE_PLACES: [&str; 6] = [
+    "requested, of a TLV that is read",
+    "allocated, of a TLV that is read",
+    "requested, of a TLV that is written",
+    "allocated, of a TLV that is written",
+    "asked for by a port in POWER_ON",
+    "asked for by a port in another state",
+];
 
 const LEFT_IMAGE: &str = "table accepted, the bytes that an earlier line left past it no port";
 const LEFT_FLAGS: &str = "tick accepted, the bytes that an earlier line left past it reserved";
@@ -31,6 +46,8 @@ pub struct Alone {
     control_words: BTreeSet<u64>,
     control_bits: BTreeSet<u32>,
     requests: BTreeSet<(u8, u64)>,
+    /// Where a value stood alone, and the value.
+    values: BTreeSet<(&'static str, u64)>,
     status_words: BTreeSet<u16>,
     /// Of the only port, where nothing else of it could be refused.
     demands: BTreeSet<u16>,
@@ -56,6 +73,20 @@ impl Alone {
             }
             (Line::Request(port, value), Answer::Ok | Answer::Refused(11 | 12)) => {
                 self.requests.insert((before.ports[*port as usize].class, *value));
+                self.values.insert((VALUE_PLACES[4], *value));
+            }
+            (Line::Request(port, value), Answer::Refused(10 | 5)) => {
+                let on = before.ports[*port as usize].state == State::PowerOn;
+                self.values.insert((VALUE_PLACES[if on { 4 } else { 5 }], *value));
+            }
+            (Line::Read(bytes), Answer::Fields(_) | Answer::Refused(10)) if bytes.len() == 14 => {
+                let value = |at| u64::from(u16::from_be_bytes([bytes[at], bytes[at + 1]]));
+                self.values(0, value(10), value(12));
+            }
+            (Line::Write(_, fields), Answer::Wrote(_) | Answer::Refused(10)) => {
+                if let Some(e) = fields.extension {
+                    self.values(2, e.requested, e.allocated);
+                }
             }
             (Line::Status(0), Answer::Refused(13)) => self.demand(before),
             (Line::Status(_), Answer::Status(word)) => {
@@ -66,6 +97,16 @@ impl Alone {
         }
         self.count_of_49(before, line);
         self.leftovers(line, answer);
+    }
+
+    /// A value counts where the other one would not be refused.
+    fn values(&mut self, place: usize, requested: u64, allocated: u64) {
+        if allocated <= HIGHEST_VALUE {
+            self.values.insert((VALUE_PLACES[place], requested));
+        }
+        if requested <= HIGHEST_VALUE {
+            self.values.insert((VALUE_PLACES[place + 1], allocated));
+        }
     }
 
     fn accepted(&mut self, before: &Table, block: &[u8]) {
@@ -187,7 +228,11 @@ impl Alone {
             let name = format!("words of the six flags in {}, then a dump", state_name(state));
             sets.push((name, 2 * usize::from(LOAD_PRESENT), met));
         }
-        let edges = [1, 38, 39, 64, 65, 129, 130, 255];
+        for place in VALUE_PLACES {
+            let met = LIMIT_VALUES.iter().filter(|&&v| self.values.contains(&(place, v))).count();
+            sets.push((format!("values at a limit, {place}"), LIMIT_VALUES.len(), met));
+        }
+        let edges = [1, 38, 39, 64, 65, 129, 130, 255, 256, 999];
         let near = self.requests.iter().filter(|request| edges.contains(&request.1)).count();
         let low = self.demands.range(..64).count();
         let bits = "bits 6 to 63 alone beside a right control word";

@@ -6,7 +6,7 @@ use crate::lines::Line;
 use crate::port::{control_reserved, State};
 use crate::reading::{Sample, BUDGETS, RESERVED_FLAGS, SAMPLE_BYTES};
 use crate::table::{requested_demand, Table, HIGHEST_SUPPLY};
-use crate::tlv::{Fields, LONGEST_PDU, MARK};
+use crate::tlv::{Fields, HIGHEST_VALUE, LONGEST_PDU, MARK};
 
 /// Two refusals of one call that can hold at once, the one checked first in
 /// front.
@@ -63,7 +63,7 @@ pub fn reasons(cells: &[u16], line: &Line) -> Vec<u8> {
         }
         Line::Status(port) => vec![ill, stranger(*port)],
         Line::Request(port, value) => {
-            let mut all = vec![ill, stranger(*port), (10, requested_demand(*value).is_none())];
+            let mut all = vec![ill, stranger(*port), (10, *value == 0 || *value > HIGHEST_VALUE)];
             all.extend(of_request(table, *port, *value));
             all
         }
@@ -93,7 +93,10 @@ fn of_request(table: &Table, port: u64, value: u64) -> Vec<(u8, bool)> {
     }
     let port = &table.ports[port as usize];
     let demand = requested_demand(value).unwrap_or(0);
-    let over = BUDGETS.get(usize::from(port.class)).is_some_and(|budget| demand > *budget);
+    let budget = BUDGETS.get(usize::from(port.class));
+    // Request [4]: "11 for 256 to 999".
+    let over =
+        (256..=HIGHEST_VALUE).contains(&value) || budget.is_some_and(|budget| demand > *budget);
     let on = port.state == State::PowerOn;
     let sum = i64::from(table.closed_demands()) - i64::from(port.demand) + i64::from(demand);
     let unfit = on && demand > port.demand && sum > i64::from(table.supply);
@@ -128,8 +131,9 @@ fn of_read(bytes: &[u8]) -> Vec<(u8, bool)> {
     let said = 2 + (usize::from(bytes[0] & 1) << 8 | usize::from(bytes[1]));
     let known = bytes[0] >> 1 == 127 && (said == 9 || said == 14);
     let marked = bytes.len() < 6 || bytes[2..6] == MARK;
-    let value = |at: usize| bytes.get(at..at + 2).is_some_and(|v| v[0] != 0 || v[1] == 0);
-    let values = said == 14 && (value(10) || value(12));
+    let value =
+        |at: usize| bytes.get(at..at + 2).map_or(0, |v| 256 * u64::from(v[0]) + u64::from(v[1]));
+    let values = said == 14 && (value(10) > HIGHEST_VALUE || value(12) > HIGHEST_VALUE);
     vec![(6, bytes.len() < said), (9, !known || !marked || bytes.len() > said), (10, values)]
 }
 
@@ -138,6 +142,6 @@ fn of_write(room: usize, fields: &Fields) -> Vec<(u8, bool)> {
         return vec![(1, room < 9)];
     };
     let codes = [e.kind, e.source, e.priority].iter().any(|&code| code > 3);
-    let values = [e.requested, e.allocated].iter().any(|value| !(1..=255).contains(value));
+    let values = [e.requested, e.allocated].iter().any(|&value| value > HIGHEST_VALUE);
     vec![(3, codes), (10, values), (1, room < 14)]
 }

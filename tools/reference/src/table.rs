@@ -5,6 +5,7 @@ use crate::port::{
     control_reserved, moved, Move, Port, State, ALTERNATIVE_A, ALTERNATIVE_B, DENIED,
 };
 use crate::reading::{Sample, BUDGETS, RESERVED_FLAGS, SAMPLE_BYTES};
+use crate::tlv::HIGHEST_VALUE;
 
 pub const PLACES: usize = 48;
 
@@ -119,11 +120,16 @@ impl Table {
     pub fn request(&mut self, port: u64, value: u64) -> Result<(), u8> {
         self.well_made()?;
         let p = self.place(port)?;
-        let demand = requested_demand(value).ok_or(10)?;
+        // Request [4]: "A request gives 10 for 0 or above 999, and 11 for 256 to
+        // 999, after the state check as before."
+        if value == 0 || value > HIGHEST_VALUE {
+            return Err(10);
+        }
         let old = self.ports[p];
         if old.state != State::PowerOn {
             return Err(5);
         }
+        let demand = requested_demand(value).ok_or(11)?;
         // "Over the class budget: 11."
         if demand > BUDGETS[usize::from(old.class)] {
             return Err(11);
@@ -218,7 +224,7 @@ impl Table {
 }
 
 /// "value 1..38 means demand 40, ..64 means 70, ..129 means 154, ..255 means
-/// 300." None is refusal 10.
+/// 300." No other value means a demand.
 pub fn requested_demand(value: u64) -> Option<u16> {
     match value {
         1..=38 => Some(40),

@@ -114,12 +114,50 @@ fn walk_to_power() {
             ("request 0 38", "ok"),
             ("request 0 129", "ok"),
             ("request 0 130", "refused 11"),
-            ("request 0 256", "refused 10"),
+            ("request 0 255", "refused 11"),
+            ("request 0 256", "refused 11"),
+            ("request 0 999", "refused 11"),
+            ("request 0 0", "refused 10"),
+            ("request 0 1000", "refused 10"),
             ("control 0 9", "refused 5"),
             (&format!("tick 153 {}", sample(0b100111)), "ticked 0 0 0"),
             ("status 0", "status 4099"),
         ],
     );
+}
+
+/// Request [4]: what reader, writer and request say at each limit of a value, the
+/// request of a port of class 4 in POWER_ON and of one in IDLE.
+#[test]
+fn values_at_their_limits() {
+    let mut console = Console::new();
+    dialogue(&mut console, &[("cold 2", "ok"), ("control 0 5", "ok")]);
+    let up = "0fa01f4000a001409c409c400027".to_owned();
+    for _ in 0..5 {
+        console.answer(format!("tick 300 {up}{}", "00".repeat(14)).as_bytes());
+    }
+    let rows: [(u64, bool, &str, &str); 7] = [
+        (0, true, "refused 10", "refused 10"),
+        (1, true, "ok", "refused 5"),
+        (255, true, "ok", "refused 5"),
+        (256, true, "refused 11", "refused 5"),
+        (999, true, "refused 11", "refused 5"),
+        (1_000, false, "refused 10", "refused 10"),
+        (65_535, false, "refused 10", "refused 10"),
+    ];
+    for (value, taken, on, idle) in rows {
+        for (requested, allocated) in [(value, 7), (7, value)] {
+            let bytes = format!("fe0c00120f0201020393{requested:04x}{allocated:04x}");
+            let fields = format!("fields 1 2 3 2 1 3 {requested} {allocated}");
+            let read = if taken { fields.as_str() } else { "refused 10" };
+            assert_eq!(said(&format!("read {bytes}")), read);
+            let written = format!("wrote {bytes}");
+            let wrote = if taken { written.as_str() } else { "refused 10" };
+            assert_eq!(said(&format!("write12 14 1 2 3 2 1 3 {requested} {allocated}")), wrote);
+        }
+        let asked = [format!("request 0 {value}"), format!("request 1 {value}")];
+        dialogue(&mut console, &[(&asked[0], on), (&asked[1], idle)]);
+    }
 }
 
 /// Refusal 12 compares with the stored supply, for a higher demand only.
@@ -162,13 +200,15 @@ fn refusals() {
             ("request 4294967296 0", "refused 2"),
             ("request 0 4294967297", "refused 10"),
             ("request 0 1", "refused 5"),
+            ("request 0 999", "refused 5"),
+            ("request 0 1000", "refused 10"),
             ("tick 60001 00", "refused 1"),
             ("tick 60001 000000000000000000000000ffff", "refused 4"),
             ("tick 60000 0000000000000000000000000040", "refused 3"),
             ("tick 60000 0000000000000000000000000000", "ticked 0 0 0"),
             ("write12 0 1 1 1 4 0 0 0 0", "refused 3"),
-            ("write12 0 1 1 1 3 0 0 256 1", "refused 10"),
-            ("write12 13 1 1 1 3 0 0 255 1", "refused 1"),
+            ("write12 0 1 1 1 3 0 0 1000 1", "refused 10"),
+            ("write12 13 1 1 1 3 0 0 999 0", "refused 1"),
             ("write7 8 1 1 1", "refused 1"),
         ],
     );
@@ -373,7 +413,7 @@ fn a_script_meets_everything() {
     }
     let one_by_one = counts.lines().skip_while(|row| !row.starts_with("| One by one"));
     let rows: Vec<&str> = one_by_one.skip(2).take_while(|row| !row.is_empty()).collect();
-    assert_eq!(rows.len(), 21);
+    assert_eq!(rows.len(), 27);
     for row in rows {
         let cells: Vec<&str> = row.split(" | ").collect();
         assert_eq!(cells[1], cells[2].trim_end_matches(" |"), "{row}");

@@ -9,6 +9,10 @@ pub const MARK: [u8; 4] = [0x00, 0x12, 0x0F, 0x02];
 /// "Type 127 (7 bits)".
 pub const POWER_TYPE: u16 = 127;
 
+/// Request [4]: "Table 79-5, allows 0 through 999", where document 01 has
+/// "1..255".
+pub const HIGHEST_VALUE: u64 = 999;
+
 /// "type 01, source 01, priority 10, requested 255, allocated 130": what
 /// length 12 adds. As wide as the console's numbers, so that the writer refuses
 /// what is too large.
@@ -107,16 +111,16 @@ pub fn read(bytes: &[u8]) -> Result<Fields, u8> {
         requested: value(10),
         allocated: value(12),
     };
-    // "the requested and allocated values, 16 bits each, 1..255".
-    if outside(extension.requested) || outside(extension.allocated) {
+    // "the requested and allocated values, 16 bits each".
+    if too_high(extension.requested) || too_high(extension.allocated) {
         return Err(10);
     }
     Ok(Fields { octets, extension: Some(extension) })
 }
 
-/// "power value outside 1..255": 10.
-fn outside(value: u64) -> bool {
-    value == 0 || value > 255
+/// Request [4]: "Reading and writing a TLV now give refusal 10 only above 999."
+fn too_high(value: u64) -> bool {
+    value > HIGHEST_VALUE
 }
 
 /// "Writing: 3, 10, 1." "Room past a written TLV keeps its bytes."
@@ -125,7 +129,7 @@ pub fn write(room: &mut [u8], fields: &Fields) -> Result<(), u8> {
         if e.kind > 3 || e.source > 3 || e.priority > 3 {
             return Err(3);
         }
-        if outside(e.requested) || outside(e.allocated) {
+        if too_high(e.requested) || too_high(e.allocated) {
             return Err(10);
         }
     }

@@ -5,16 +5,18 @@
 use super::readings::pressing;
 use super::tables::{image_line, near_port, near_table};
 use super::Maker;
+use crate::alone::LIMIT_VALUES;
 use crate::image::{written, IMAGE_BYTES, PORT_BYTES};
 use crate::lines::hex_text;
 use crate::port::{control_reserved, Port, State, STATES};
 use crate::random::Random;
 use crate::reading::{Sample, LOAD_PRESENT, RESERVED_FLAGS, SAMPLE_BYTES};
 use crate::table::{Table, PLACES};
+use crate::tlv::{made, Extension, Fields};
 
 /// Half of the turns go to the flag words, of which there are 640.
 pub fn alone(maker: &mut Maker) {
-    match maker.turn(9) % 13 {
+    match maker.turn(9) % 14 {
         0 => each_flag(maker),
         1 => each_bit_of_control(maker),
         2 => each_request(maker),
@@ -30,6 +32,7 @@ pub fn alone(maker: &mut Maker) {
             }
         }
         6 => each_answer(maker),
+        7 => each_value(maker),
         _ => {
             for _ in 0..3 {
                 flag_words(maker);
@@ -99,13 +102,45 @@ fn each_request(maker: &mut Maker) {
     let drawn = table.closed_demands() as u16;
     table.supply = maker.r.pick(&[60_000, drawn + 29, drawn + 83, drawn + 145]);
     image_line(maker, &written(&table));
-    let mut values = [1, 38, 39, 64, 65, 129, 130, 255];
+    let mut values = [1, 38, 39, 64, 65, 129, 130, 255, 256, 999];
     for place in 0..25 {
         if maker.r.chance(50) {
             values.reverse();
         }
         for value in values {
             maker.say(&format!("request {place} {value}"));
+        }
+    }
+    maker.say("dump");
+}
+
+/// On both sides of each limit of a power value: of a TLV that is read and of one
+/// that is written, the one value and the other alone; and asked for by a port in
+/// POWER_ON whose class and supply allow all that can be had, and by one that is not.
+fn each_value(maker: &mut Maker) {
+    let octets = [0; 3].map(|_: u8| maker.r.next() as u8);
+    for value in LIMIT_VALUES {
+        for first in [true, false] {
+            let other = maker.r.between(0, 999);
+            let (requested, allocated) = if first { (value, other) } else { (other, value) };
+            let [kind, source, priority] = [0; 3].map(|_: u64| maker.r.below(4));
+            let fields = Extension { kind, source, priority, requested, allocated };
+            let bytes = hex_text(&made(&Fields { octets, extension: Some(fields) }));
+            maker.say(&format!("read {bytes}"));
+            let head = format!("{} {} {}", octets[0], octets[1], octets[2]);
+            let codes = format!("{kind} {source} {priority}");
+            maker.say(&format!("write12 14 {head} {codes} {requested} {allocated}"));
+        }
+    }
+    let mut table = Table::cold(2).unwrap_or_else(|_| Table::zero());
+    table.ports[0] = Port { class: 4, demand: 40, ..calm_port(&mut maker.r, State::PowerOn) };
+    let other = maker.r.pick(&[State::PowerUp, State::Idle, State::TestMode]);
+    table.ports[1] = Port { class: 4, demand: 40, ..calm_port(&mut maker.r, other) };
+    table.supply = 60_000;
+    image_line(maker, &written(&table));
+    for value in LIMIT_VALUES {
+        for port in 0..2 {
+            maker.say(&format!("request {port} {value}"));
         }
     }
     maker.say("dump");
@@ -208,6 +243,7 @@ fn calls_and_refusals(table: &Table, samples: &str) -> Vec<String> {
         "request 0 0".to_string(),
         "request 2 1".to_string(),
         "request 1 130".to_string(),
+        "request 0 256".to_string(),
         "request 0 255".to_string(),
         format!("tick 1 {}", &samples[2..]),
         format!("tick 60001 {samples}"),

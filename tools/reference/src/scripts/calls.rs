@@ -48,11 +48,11 @@ pub fn request_line(maker: &mut Maker) {
     let r = &mut maker.r;
     let value = match r.below(16) {
         5..=9 if unfit.is_some() => unfit.unwrap_or(0),
-        0 => r.pick(&[0, 256]),
+        0 => r.pick(&[0, 1_000, 256, 999]),
         1 => too_wide(r, 38),
         2 => r.between(1, 255),
         3 => same_value(held.demand),
-        4 => r.pick(&[129, 130, 255]),
+        4 => r.pick(&[129, 130, 255, 256, 999]),
         // Down from the budget, or up towards it.
         5..=11 if held.demand >= budget => r.pick(&[1, 38, 39, 64]),
         5..=12 if budget > 154 => r.pick(&[65, 129, 130, 255]),

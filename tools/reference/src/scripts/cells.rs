@@ -240,9 +240,11 @@ fn past_the_count(maker: &mut Maker) {
     }
     cells_line(maker, &cells);
     for call in calls(maker, &cells, on, on, turn) {
-        // The tick may have led the port out of POWER_ON, or stored too little for it.
-        let held = &maker.console.cells;
-        let led_away = held[at(0, on)] != 6 || held[SUPPLY] < cells[SUPPLY];
+        // The tick may have led the port out of POWER_ON, stored too little for it, or
+        // closed others that leave it too little.
+        let held = maker.table();
+        let room = held.closed_demands() + 260;
+        let led_away = held.ports[on].state != State::PowerOn || room > u32::from(held.supply);
         if call.starts_with("request") && led_away {
             cells_line(maker, &cells);
         }

@@ -10,10 +10,12 @@ fn power(r: &mut Random) -> Vec<u8> {
     if r.chance(35) {
         return made(&Fields { octets, extension: None });
     }
-    let value = |r: &mut Random| match r.below(4) {
-        0 => 1,
-        1 => 255,
-        _ => r.between(1, 255),
+    let value = |r: &mut Random| match r.below(8) {
+        0 => r.pick(&[0, 1]),
+        1 => r.pick(&[255, 256]),
+        2 => 999,
+        3 => r.between(0, 255),
+        _ => r.between(0, 999),
     };
     let extension = Extension {
         kind: r.below(4),
@@ -156,7 +158,8 @@ fn lone(r: &mut Random) -> Vec<u8> {
     match r.below(8) {
         0 if bytes.len() == 14 => {
             let at = r.pick(&[10, 12]);
-            let value: u16 = r.pick(&[0, 256, 257, 0x8001, 65_535, 1, 255, 0xFF00]);
+            let value: u16 =
+                r.pick(&[0, 1, 255, 256, 999, 1_000, 1_000, 1_023, 1_024, 0x8001, 65_535, 0xFF00]);
             bytes[at..at + 2].copy_from_slice(&value.to_be_bytes());
         }
         1 if bytes.len() == 14 => bytes[9] |= (r.between(1, 3) as u8) << 2,
@@ -168,8 +171,7 @@ fn lone(r: &mut Random) -> Vec<u8> {
     }
     if r.chance(15) && bytes.len() == 14 {
         // 9 and 10, or 6 and 10, at once.
-        bytes[11] = 0;
-        bytes[10] = 0;
+        bytes[10..12].copy_from_slice(&1_000u16.to_be_bytes());
         damage(r, &mut bytes);
     }
     bytes
@@ -204,11 +206,14 @@ fn write_line(r: &mut Random) -> String {
     let (kind, source, priority) = (code(r), code(r), code(r));
     let value = |r: &mut Random| match r.below(20) {
         0 => 0,
-        1 => 256,
+        1 => 1_000,
         2 => too_wide(r, 1),
-        3..=5 => 255,
+        3 => 999,
+        4 => 256,
+        5 => 255,
         6 | 7 => 1,
-        _ => r.between(1, 255),
+        8..=12 => r.between(0, 255),
+        _ => r.between(0, 999),
     };
     let (requested, allocated) = (value(r), value(r));
     format!("write12 {head} {kind} {source} {priority} {requested} {allocated}")
