@@ -68,9 +68,9 @@ extern "C" {
 #define IPAQSUNI_SEVERAL_TLVS 8
 /* the bytes are not exactly one power TLV of length 7 or 12 */
 #define IPAQSUNI_NOT_ONE_TLV 9
-/* power value outside 1..255 */
+/* power value above 999 in a TLV that is read or written; a request of 0 or above 999 */
 #define IPAQSUNI_BAD_VALUE 10
-/* request over the port's class */
+/* request over the port's class; one of 256 to 999 is over every class */
 #define IPAQSUNI_OVER_CLASS 11
 /* request does not fit the supply */
 #define IPAQSUNI_OVER_SUPPLY 12
@@ -84,6 +84,9 @@ extern "C" {
 #define IPAQSUNI_SAMPLE 14 /* a port's part of a sample block */
 #define IPAQSUNI_LONGEST_PDU 1500
 #define IPAQSUNI_LONGEST_TLV 14 /* a written TLV of form 12, with its header; one of form 7 is 9 */
+
+/* The highest requested or allocated value of a TLV, in tenths of a watt; the lowest is 0. */
+#define IPAQSUNI_HIGHEST_VALUE 999
 
 /* A table. Each array has a place for each port, of which those below the count are in use. */
 struct ipaqsuni_table {
@@ -159,7 +162,10 @@ uint32_t ipaqsuni_write_control(uint16_t *cells, size_t cells_len, uint32_t port
 /* The port's status word goes to *status, and its six latches are cleared, no more. Refused: 13, 2. */
 uint32_t ipaqsuni_read_status(uint16_t *cells, size_t cells_len, uint32_t port, uint32_t *status);
 
-/* The demand that an LLDP request for value stands for becomes the port's, and nothing else changes. Refused: 13, 2, 10, 5, 11, 12. */
+/*
+ * The demand that an LLDP request for value stands for becomes the port's, and nothing else changes. Refused: 13, 2, 10, 5, 11, 12. A TLV
+ * may request 0, which is no wish, and up to 999; asked for here, 0 is refused with 10, and 256 to 999 with 11.
+ */
 uint32_t ipaqsuni_request(uint16_t *cells, size_t cells_len, uint32_t port, uint32_t value);
 
 /*

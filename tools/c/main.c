@@ -83,8 +83,10 @@ static void refusals(void) {
     is("control with enable 11", ipaqsuni_write_control(IPAQSUNI_LENT(&table), 0, 0x0007), IPAQSUNI_RESERVED);
     is("control to alternative B", ipaqsuni_write_control(IPAQSUNI_LENT(&table), 0, 0x0009), IPAQSUNI_WRONG_STATE);
     is("status of port 1", ipaqsuni_read_status(IPAQSUNI_LENT(&table), 1, &status), IPAQSUNI_NO_SUCH_PORT);
-    is("request of 256", ipaqsuni_request(IPAQSUNI_LENT(&table), 0, 256), IPAQSUNI_BAD_VALUE);
+    is("request of 0", ipaqsuni_request(IPAQSUNI_LENT(&table), 0, 0), IPAQSUNI_BAD_VALUE);
+    is("request of 1,000", ipaqsuni_request(IPAQSUNI_LENT(&table), 0, IPAQSUNI_HIGHEST_VALUE + 1), IPAQSUNI_BAD_VALUE);
     is("request in IDLE", ipaqsuni_request(IPAQSUNI_LENT(&table), 0, 1), IPAQSUNI_WRONG_STATE);
+    is("request of 999 in IDLE", ipaqsuni_request(IPAQSUNI_LENT(&table), 0, 999), IPAQSUNI_WRONG_STATE);
     is("tick on 13 bytes", ipaqsuni_tick(IPAQSUNI_LENT(&table), samples, sizeof samples - 1, 154, &a, &b, &n), IPAQSUNI_BAD_LENGTH);
     is("tick at 60,001", ipaqsuni_tick(IPAQSUNI_LENT(&table), samples, sizeof samples, 60001, &a, &b, &n), IPAQSUNI_SUPPLY_TOO_LARGE);
     samples[IPAQSUNI_SAMPLE - 1] = 0x40;
@@ -121,6 +123,8 @@ static void requests(void) {
     tick_last("class 4 goes to POWER_UP", 300, classified, 1);
     is("request in POWER_UP", ipaqsuni_request(IPAQSUNI_LENT(&table), 2, 38), IPAQSUNI_WRONG_STATE);
     tick_last("settled goes to POWER_ON", 300, settled, 1);
+    is("request of 256: over every class", ipaqsuni_request(IPAQSUNI_LENT(&table), 2, 256), IPAQSUNI_OVER_CLASS);
+    is("request of 999: over every class", ipaqsuni_request(IPAQSUNI_LENT(&table), 2, IPAQSUNI_HIGHEST_VALUE), IPAQSUNI_OVER_CLASS);
     is("request of 38: 4.0 W", ipaqsuni_request(IPAQSUNI_LENT(&table), 2, 38), IPAQSUNI_OK);
     tick_last("a supply of 4.0 W keeps it", 40, settled, 1);
     tick_last("a supply of 29.9 W keeps it", 299, settled, 1);
@@ -212,6 +216,25 @@ static void frames(void) {
     is("find in 1,501 bytes", ipaqsuni_find_power_tlv(blank, sizeof blank, &offset, &length), IPAQSUNI_BAD_LENGTH);
 }
 
+/* Both ends of a TLV's values are written and read back; one past the end is refused, and nothing is written or read. */
+static void values(void) {
+    uint32_t fields[IPAQSUNI_FIELDS] = {12, 7, 1, 5, 1, 1, 2, 0, IPAQSUNI_HIGHEST_VALUE}, back[IPAQSUNI_FIELDS] = {0};
+    uint8_t room[IPAQSUNI_LONGEST_TLV] = {0}, before[IPAQSUNI_LONGEST_TLV];
+    uint64_t written = 77;
+
+    is("write requested 0, allocated 999", ipaqsuni_write_power_tlv(fields, room, sizeof room, &written), IPAQSUNI_OK);
+    is("read it back", ipaqsuni_read_power_tlv(room, sizeof room, back), IPAQSUNI_OK);
+    same("  the same fields", back, fields, sizeof fields);
+    memcpy(before, room, sizeof room);
+    fields[IPAQSUNI_REQUESTED] = IPAQSUNI_HIGHEST_VALUE + 1;
+    is("write requested 1,000", ipaqsuni_write_power_tlv(fields, room, sizeof room, &written), IPAQSUNI_BAD_VALUE);
+    same("  the room is as it was", room, before, sizeof room);
+    fields[IPAQSUNI_REQUESTED] = 0;
+    room[13]++;
+    is("read allocated 1,000", ipaqsuni_read_power_tlv(room, sizeof room, back), IPAQSUNI_BAD_VALUE);
+    same("  the fields are as they were", back, fields, sizeof fields);
+}
+
 int main(int argc, char **argv) {
     if (argc == 2 && strcmp(argv[1], "lines") == 0)
         return lines();
@@ -220,5 +243,6 @@ int main(int argc, char **argv) {
     requests();
     images();
     frames();
+    values();
     return differences;
 }

@@ -116,7 +116,7 @@ impl Strange {
     fn calls(&mut self, r: &mut Random, image: &[u8], cells: &Vec<u16>) -> Result<(), String> {
         let port = r.below(u64::from(cells.first().copied().unwrap_or(1)).min(48) + 1) as u32;
         let word = r.pick(&[4, 5, 6, 7, 8, 9, 10, 0x14, 0x45, 0x1_0005, u32::MAX]);
-        let value = r.pick(&[0, 1, 38, 39, 64, 129, 130, 255, 256, u32::MAX]);
+        let value = r.pick(&[0, 1, 38, 39, 64, 129, 130, 255, 256, 999, 1_000, 65_535, u32::MAX]);
         let ports = r.pick(&[0, 1, 7, 48, 49, 256, 65_537, u32::MAX]);
         let image = perhaps_image(r, image);
         let room = vec![0xa5; r.pick(&[image::IMAGE_BYTES; 4]) - usize::from(r.chance(20))];

@@ -118,8 +118,11 @@ fn refusals(shown: &mut Shown, table: &mut [u16]) {
         header::WRONG_STATE,
     );
     shown.answers("status of port 1", core::read_status(table, 1), header::NO_SUCH_PORT);
-    shown.answers("request of 256", core::request(table, 0, 256), header::BAD_VALUE);
+    shown.answers("request of 0", core::request(table, 0, 0), header::BAD_VALUE);
+    let too_high = core::request(table, 0, header::HIGHEST_VALUE + 1);
+    shown.answers("request of 1,000", too_high, header::BAD_VALUE);
     shown.answers("request in IDLE", core::request(table, 0, 1), header::WRONG_STATE);
+    shown.answers("request of 999 in IDLE", core::request(table, 0, 999), header::WRONG_STATE);
     shown.answers(
         "tick on 13 bytes",
         core::tick(table, &samples[..SAMPLE - 1], 154),
@@ -154,6 +157,10 @@ fn requests(shown: &mut Shown, table: &mut [u16]) {
     shown.tick("class 4 goes to POWER_UP", table, &last(classified), 300, on_b(1));
     shown.answers("request in POWER_UP", core::request(table, 2, 38), header::WRONG_STATE);
     shown.tick("settled goes to POWER_ON", table, &last(settled), 300, on_b(1));
+    let past_the_last_level = core::request(table, 2, 256);
+    shown.answers("request of 256: over every class", past_the_last_level, header::OVER_CLASS);
+    let highest = core::request(table, 2, header::HIGHEST_VALUE);
+    shown.answers("request of 999: over every class", highest, header::OVER_CLASS);
     shown.answers("request of 38: 4.0 W", core::request(table, 2, 38), header::OK);
     shown.tick("a supply of 4.0 W keeps it", table, &last(settled), 40, on_b(1));
     shown.tick("a supply of 29.9 W keeps it", table, &last(settled), 299, on_b(1));
@@ -280,6 +287,27 @@ fn written(shown: &mut Shown, mut fields: Fields, tlv: &[u8]) {
     shown.answers("read it cut", core::read_power_tlv(&room[..8]), header::CUT);
 }
 
+/// Both ends of a TLV's values are written and read back; one past the end is refused, and nothing is written or read.
+fn values(shown: &mut Shown) {
+    let mut fields: Fields = [12, 7, 1, 5, 1, 1, 2, 0, header::HIGHEST_VALUE];
+    let mut room = [0; LONGEST_TLV];
+    let wrote = core::write_power_tlv(&fields, &mut room);
+    shown.answers("write requested 0, allocated 999", wrote, header::OK);
+    if let Some(back) = shown.answers("read it back", core::read_power_tlv(&room), header::OK) {
+        shown.is("  the same fields", u64::from(back == fields), 1);
+    }
+    let before = room;
+    fields[REQUESTED] = header::HIGHEST_VALUE + 1;
+    let refused = core::write_power_tlv(&fields, &mut room);
+    shown.answers("write requested 1,000", refused, header::BAD_VALUE);
+    shown.is("  the room is as it was", u64::from(room == before), 1);
+    room[13] += 1;
+    let read = core::read_power_tlv(&room);
+    shown.answers("read allocated 1,000", read, header::BAD_VALUE);
+    // A refused read hands no fields back.
+    shown.is("  the fields are as they were", u64::from(read.is_err()), 1);
+}
+
 fn main() -> ExitCode {
     if std::env::args().nth(1).as_deref() == Some("lines") {
         return lines::answer_all();
@@ -291,5 +319,6 @@ fn main() -> ExitCode {
     requests(&mut shown, &mut table);
     images(&mut shown, &mut table);
     frames(&mut shown);
+    values(&mut shown);
     ExitCode::from(u8::from(shown.differs))
 }

@@ -45,8 +45,9 @@ pub fn search(pdu: &[u8]) -> Result<(usize, usize), u8> {
     }
 }
 
-fn outside(value: u16) -> bool {
-    value == 0 || value > 255
+/// Request [4]: "refusal 10 only above 999".
+fn too_high(value: u16) -> bool {
+    value > 999
 }
 
 /// "Reading a TLV: 6, 9, 10."
@@ -64,7 +65,7 @@ pub fn read(bytes: &[u8]) -> Result<Fields, u8> {
         [s, p, c, codes, r1, r0, a1, a0] => {
             let requested = u16::from_be_bytes([r1, r0]);
             let allocated = u16::from_be_bytes([a1, a0]);
-            if outside(requested) || outside(allocated) {
+            if too_high(requested) || too_high(allocated) {
                 return Err(10);
             }
             let added = Added {
