@@ -73,6 +73,7 @@ calls =
     ∷ (asks (shared PowerOn 4 300 0) 0 65535, number 10)
     ∷ (asks (shared PowerOn 1 40 0) 0 256, number 11)
     ∷ (asks (shared PowerOn 1 40 0) 0 1000, number 10)
+    ∷ (asks (shared PowerUp 4 300 0) 0 0, number 10)
     ∷ (asks (shared PowerUp 4 300 0) 0 1, number 5)
     ∷ (asks (shared PowerUp 4 300 0) 0 256, number 5)
     ∷ (asks (shared PowerUp 4 300 0) 0 999, number 5)

@@ -53,6 +53,8 @@ reading-rows =
     ∷ (long 0b10010011 0 38 0x03 0xE7, Is (fields 2 1 3 38 999))
     ∷ (long 0b10010011 0 38 0x03 0xE8, Refused 10)
     ∷ (long 0b10010011 0 38 255 255, Refused 10)
+    -- "only above 999": so 0xACAC too, which an Autoclass device may send by Clause 145 (docs/DECISIONS.md)
+    ∷ (long 0b10010011 0xAC 0xAC 0 64, Refused 10)
     -- "Reading a TLV: 6, 9, 10.": a value too high in a TLV with a byte left over
     ∷ (0xFE ∷ 0x0C ∷ 0x00 ∷ 0x12 ∷ 0x0F ∷ 0x02 ∷ 0x0A ∷ 0x0B ∷ 0x0C ∷ 0x52 ∷ 0x03 ∷ 0xE8 ∷ 0x00 ∷ 0x40 ∷ 0x00 ∷ [], Refused 9)
     -- "exactly one power TLV of length 7 or 12": a byte left over; length 8; another OUI; another subtype
@@ -84,12 +86,15 @@ writing-rows =
     ∷ (writes (fields 1 2 1 1 255) 14, (Wrote 14, long 0b01100001 0 1 0 255))
     -- request [4], "0 through 999"
     ∷ (writes (fields 2 1 3 0 64) 14, (Wrote 14, long 0b10010011 0 0 0 64))
+    ∷ (writes (fields 2 1 3 1 64) 14, (Wrote 14, long 0b10010011 0 1 0 64))
+    ∷ (writes (fields 2 1 3 255 64) 14, (Wrote 14, long 0b10010011 0 255 0 64))
     ∷ (writes (fields 2 1 3 256 64) 14, (Wrote 14, long 0b10010011 1 0 0 64))
     ∷ (writes (fields 2 1 3 999 64) 14, (Wrote 14, long 0b10010011 0x03 0xE7 0 64))
     ∷ (writes (fields 2 1 3 1000 64) 14, (NotWritten 10, room 14))
     ∷ (writes (fields 2 1 3 65535 64) 14, (NotWritten 10, room 14))
     ∷ (writes (fields 2 1 3 38 0) 14, (Wrote 14, long 0b10010011 0 38 0 0))
     ∷ (writes (fields 2 1 3 38 1) 14, (Wrote 14, long 0b10010011 0 38 0 1))
+    ∷ (writes (fields 2 1 3 38 255) 14, (Wrote 14, long 0b10010011 0 38 0 255))
     ∷ (writes (fields 2 1 3 38 256) 14, (Wrote 14, long 0b10010011 0 38 1 0))
     ∷ (writes (fields 2 1 3 38 999) 14, (Wrote 14, long 0b10010011 0 38 0x03 0xE7))
     ∷ (writes (fields 2 1 3 38 1000) 14, (NotWritten 10, room 14))

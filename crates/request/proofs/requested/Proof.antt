@@ -1,6 +1,6 @@
 -- `requested` is the ladder from 10 on: the tests that led to each answer, in its order. Assumes nothing.
 use mathlib.Core.Path.{_≡_, sym, _∙_, ap}
-use mathlib.Core.Bool.{Bool, true, false, _||_}
+use mathlib.Core.Bool.{true, false, _||_}
 use mathlib.Core.List.{List}
 use Prim.Native.Nat.{ℕ, _+_}
 use borrow.Author.Needs.{needs}
