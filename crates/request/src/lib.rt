@@ -36,14 +36,15 @@ fn level_of(value: u64) -> Power
     budget(4)
 }
 
-// What is above 255 is over every class.
-fn over_class(value: u64, class: u8) -> bool
+// What is above 255 is over every class, whatever its level.
+fn over_class(value: u64, level: Power, class: u8) -> bool
+    requires { ⌜ level ≡ levelOf value ⌝ }
     ensures { λ r. ⌜ r ≡ overClass value class ⌝ }
 {
     if 255 < value {
         return true;
     }
-    !level_of(value).at_most(budget(class))
+    !level.at_most(budget(class))
 }
 
 // A port is closed exactly in POWER_UP, POWER_ON and TEST_MODE, by their codes.
@@ -99,15 +100,15 @@ fn requested(cells: &mut [u16], p: usize, value: u64) -> Answer
     if (value == 0) | (MOST_VALUE < value) {
         return Answer::Refused(refusals::BAD_VALUE);
     }
+    let level = level_of(value);
     let on = cells[8 + p] == 6;
-    let over = over_class(value, cells[152 + p] as u8);
+    let over = over_class(value, level, cells[152 + p] as u8);
     if !on {
         return Answer::Refused(refusals::WRONG_STATE);
     }
     if over {
         return Answer::Refused(refusals::OVER_CLASS);
     }
-    let level = level_of(value);
     if too_much(cells, p, level) {
         return Answer::Refused(refusals::OVER_SUPPLY);
     }

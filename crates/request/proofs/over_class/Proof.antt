@@ -18,7 +18,7 @@ over-class-spec =
     (λ c. simp (lt-ltb _ _ (c .if1 .taken)))
     (λ c κs. search needs)
     (λ c κs. search needs)
-    (λ c κs. search needs)
     (λ c.
-    simp (le-ltb _ _ (c .before .before .before .if1 .left))
-    (ap not (c .at-most .ensures ∙ ap₂ atMost (c .before .before .level-of .ensures) (c .before .budget .ensures)) ∙ sym (over-is _ _))))
+    let s = c .before .before .before in
+    simp (le-ltb _ _ (c .before .before .if1 .left))
+    (ap not (c .at-most .ensures ∙ ap₂ atMost (s .pre) (c .before .budget .ensures)) ∙ sym (over-is _ _))))

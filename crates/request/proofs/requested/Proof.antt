@@ -61,39 +61,39 @@ requested-spec =
     tie.close
     (tie.spec
     (λ c. let s = c .before .before in refuse-10 _ _ (s .args .value) (s .pre) (c .if1 .taken))
-    (λ c. search needs)
-    (λ c. search needs)
-    (λ c. search needs)
-    (λ c. search needs)
-    (λ c. search needs)
-    (λ c. search needs)
-    (λ c. search needs)
     (λ c κs. search needs)
+    (λ c. search needs)
+    (λ c. search needs)
+    (λ c. search needs)
+    (λ c. search needs)
+    (λ c. search needs)
+    (λ c. search needs)
+    (λ c. search needs)
+    (λ c κs. c .before .before .level-of .ensures)
     (λ c.
-    let s = c .before .before .before .before .before .before in
-    refuse-5 _ _ (s .args .value) (s .pre) (c .before .before .before .before .if1 .left) (not-true _ (c .if2 .taken)))
+    let s = c .before .before .before .before .before .before .before in
+    refuse-5 _ _ (s .args .value) (s .pre) (c .before .before .before .before .before .if1 .left) (not-true _ (c .if2 .taken)))
     (λ c.
     let on = c .before in
-    let s = on .before .before .before .before .before .before in
-    refuse-11 _ _ (s .args .value) (s .pre) (on .before .before .before .before .if1 .left) (not-false _ (on .if2 .left)) (sym (on .before .over-class .ensures) ∙ c .if3 .taken))
-    (λ c κs. search needs)
+    let s = on .before .before .before .before .before .before .before in
+    refuse-11 _ _ (s .args .value) (s .pre) (on .before .before .before .before .before .if1 .left) (not-false _ (on .if2 .left)) (sym (on .before .over-class .ensures) ∙ c .if3 .taken))
     (λ c κs. search needs)
     (λ c. search needs)
     (λ c.
-    let within = c .before .before .before .before in
+    let within = c .before .before .before in
     let on = within .before in
-    let s = on .before .before .before .before .before .before in
-    let level = c .before .before .before .level-of in
-    refuse-12 _ _ (s .args .value) (s .pre) (on .before .before .before .before .if1 .left) (not-false _ (on .if2 .left)) (sym (on .before .over-class .ensures) ∙ within .if3 .left)
+    let s = on .before .before .before .before .before .before .before in
+    let level = on .before .before .before .before .level-of in
+    refuse-12 _ _ (s .args .value) (s .pre) (on .before .before .before .before .before .if1 .left) (not-false _ (on .if2 .left)) (sym (on .before .over-class .ensures) ∙ within .if3 .left)
     (supply (s .args .p) (tableOf (now (s .args .cells))) (level .ensures) ∙ sym (c .before .too-much .ensures) ∙ c .if4 .taken))
     (λ c. search needs)
     (λ c. search needs)
     (λ c. search needs)
     (λ c. search needs)
     (λ c.
-    let within = c .before .before .before .before in
+    let within = c .before .before .before in
     let on = within .before in
-    let s = on .before .before .before .before .before .before in
-    let level = c .before .before .before .level-of in
-    accept _ _ (s .args .value) (s .pre) (on .before .before .before .before .if1 .left) (not-false _ (on .if2 .left)) (sym (on .before .over-class .ensures) ∙ within .if3 .left)
+    let s = on .before .before .before .before .before .before .before in
+    let level = on .before .before .before .before .level-of in
+    accept _ _ (s .args .value) (s .pre) (on .before .before .before .before .before .if1 .left) (not-false _ (on .if2 .left)) (sym (on .before .over-class .ensures) ∙ within .if3 .left)
     (supply (s .args .p) (tableOf (now (s .args .cells))) (level .ensures) ∙ sym (c .before .too-much .ensures) ∙ c .if4 .left) (level .result) (level .ensures)))
