@@ -7,7 +7,7 @@ use judge::answered;
 use judge::refused;
 use judge::same;
 use order::control_write::control_number;
-use order::request::request_number;
+use order::power_request::request_number;
 use order::start::start_number;
 use order::status_read::status_number;
 use order::ticking::tick_number;

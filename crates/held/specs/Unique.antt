@@ -39,7 +39,7 @@ pub record Unique : Type 0 where
   pub order-start-start-number : (cells : List ℕ) (ports : ℕ) → One ℕ (λ r. r ≡ firstNumber (startList cells ports))
   pub order-control-write-control-number : (cells : List ℕ) (port word : ℕ) → One ℕ (λ r. r ≡ firstNumber (controlList cells port word))
   pub order-status-read-status-number : (cells : List ℕ) (port : ℕ) → One ℕ (λ r. r ≡ firstNumber (statusList cells port))
-  pub order-request-request-number : (cells : List ℕ) (port value : ℕ) → One ℕ (λ r. r ≡ firstNumber (requestList cells port value))
+  pub order-power-request-request-number : (cells : List ℕ) (port value : ℕ) → One ℕ (λ r. r ≡ firstNumber (requestList cells port value))
   pub order-ticking-tick-number : (cells block : List ℕ) (figure : ℕ) → One ℕ (λ r. r ≡ firstNumber (tickList cells block figure))
   pub order-frames-search-number : (pdu : List ℕ) → One ℕ (λ r. r ≡ firstNumber (searchRefusals pdu))
   pub order-frames-read-number : (bytes : List ℕ) → One ℕ (λ r. r ≡ firstNumber (readRefusals bytes))

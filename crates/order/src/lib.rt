@@ -2,7 +2,7 @@
 // from the cells and what is handed in, for the programs that judge the core. Nothing of it is borrowed from the core. The codes of the
 // states that are named: DISABLED 0, POWER_UP 5, POWER_ON 6, TEST_MODE 8.
 pub mod control_write;
-pub mod request;
+pub mod power_request;
 pub mod start;
 pub mod status_read;
 pub mod ticking;

@@ -19,8 +19,8 @@ use Rattle.replies.proofs.OnLaws.{at-port, power-on-at}
 use Rattle.order.proofs.Order.{ill-first, well-first, well-of, well-cells-of, class-over, supply-over}
 use borrow.Author.Needs.{needs}
 use native.Mathlib.Omega.{arith}
-use Rattle.order.proofs.request.request_number.Statement.{statement}
-use Rattle.order.proofs.request.request_number.Tie as tie
+use Rattle.order.proofs.power_request.request_number.Statement.{statement}
+use Rattle.order.proofs.power_request.request_number.Tie as tie
 
 -- the number that is due, and the first number of what is left of the list
 abbrev due : tie.Start → ℕ

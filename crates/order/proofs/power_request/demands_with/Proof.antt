@@ -18,8 +18,8 @@ use Rattle.replies.specs.Calls.{granting}
 use Rattle.replies.proofs.OnLaws.{draws-with}
 use borrow.Author.Needs.{needs}
 use native.Mathlib.Omega.{arith}
-use Rattle.order.proofs.request.demands_with.Statement.{statement}
-use Rattle.order.proofs.request.demands_with.Tie as tie
+use Rattle.order.proofs.power_request.demands_with.Statement.{statement}
+use Rattle.order.proofs.power_request.demands_with.Tie as tie
 
 abbrev drawnAt : List ℕ → ℕ → ℕ → ℕ → ℕ
 drawnAt l d at q = draws (portAt (granting (tenths d) at (tableOf l)) q)

@@ -2,8 +2,8 @@
 use borrow.Author.Tests.{le-leb, lt-leb}
 use Rattle.class.specs.Class.{budgetOf}
 use Rattle.replies.specs.Calls.{levelOf}
-use Rattle.order.proofs.request.level.Statement.{statement}
-use Rattle.order.proofs.request.level.Tie as tie
+use Rattle.order.proofs.power_request.level.Statement.{statement}
+use Rattle.order.proofs.power_request.level.Tie as tie
 
 pub level-spec : {M : Type 1} → statement M
 unfolding levelOf budgetOf
