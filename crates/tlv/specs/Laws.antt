@@ -25,7 +25,7 @@ use Rattle.writer.specs.declared.Written.the-variants.{Is as Wrote}
 abbrev pub WrittenReads : Type 0
 WrittenReads = (f : Fields) (room : List ℕ) (n : ℕ) → writtenOf f room ≡ Wrote n → readOf (take n (roomAfter f room)) ≡ ReadAnswer f
 
--- request [4] of document 02, "0 through 999": each such value is written, whatever the other fields, and reads back
+-- request [4] of document 02, "0 through 999": each such value is written, beside any octets and codes, and reads back
 abbrev pub EveryValue : Type 0
 EveryValue =
     (f : Fields) (a : Added) → f .form ≡ Long a → a .kind ≤ 3 → a .source ≤ 3 → a .priority ≤ 3 → a .requested ≤ mostValue → a .allocated ≤ mostValue

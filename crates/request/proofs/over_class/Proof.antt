@@ -2,6 +2,7 @@
 -- Assumes nothing.
 use mathlib.Core.Path.{sym, _∙_, ap, ap₂}
 use mathlib.Core.Bool.{not}
+use native.Mathlib.Omega.{arith}
 use borrow.Author.Needs.{needs}
 use borrow.Author.Tests.{lt-ltb, le-ltb}
 use Rattle.power.specs.Power.{atMost}
@@ -15,10 +16,10 @@ unfolding overClass
 over-class-spec =
     tie.close
     (tie.spec
-    (λ c. simp (lt-ltb _ _ (c .if1 .taken)))
+    (λ c. simp (lt-ltb 255 (c .before .args .value) (omega (arith, c .if1 .taken))))
     (λ c κs. search needs)
     (λ c κs. search needs)
     (λ c.
     let s = c .before .before .before in
-    simp (le-ltb _ _ (c .before .before .if1 .left))
+    simp (le-ltb 255 (s .args .value) (omega (arith, c .before .before .if1 .left)))
     (ap not (c .at-most .ensures ∙ ap₂ atMost (s .pre) (c .before .budget .ensures)) ∙ sym (over-is _ _))))

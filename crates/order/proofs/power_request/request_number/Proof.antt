@@ -51,7 +51,7 @@ past4 : (c : tie.Else4) → due (c .before .before .before .before .before .befo
 unfolding tableOf
 past4 c = past3 (c .before .before) ∙ simp (power-on-at _ _ (at (c .before .before .before)) ∙ eq-eqb _ _ (c .if4 .left))
 
--- the level is over the class's budget, and over what the supply has left for it
+-- the value is past the last level or its level over the class's budget; and over what the supply has left for it
 over-class : (c : tie.After-level)
     → overClass (c .before .before .before .before .before .before .before .before .before .args .value) (portAt (tableOf (now (c .before .before .before .before .before .before .before .before .before .args .cells))) (c .before .before .before .before .before .before .before .before .before .args .port) .class)
     ≡ (ltb 255 (c .before .before .before .before .before .before .before .before .before .args .value) || ltb (getD budgets (getD (now (c .before .before .before .before .before .before .before .before .before .args .cells)) (152 + c .before .before .before .before .before .before .before .before .before .args .port) 0) 0) (c .level .result))
