@@ -8,9 +8,12 @@ use Rattle.lists.specs.Entries.{all, some}
 use Rattle.lists.proofs.Entries.{entry-or}
 use Rattle.lists.proofs.Tests.{choice}
 use Rattle.power.specs.Power.{tenths}
-use Rattle.class.specs.Class.{classOf, isFour, classOfTwo, budgets, budgetOf, isDemand}
+use Rattle.class.specs.Class.{classOf, isFour, alone, classOfTwo, budgets, budgetOf, isDemand}
 use Rattle.class.specs.declared.Class.{Class}
 use Rattle.class.specs.declared.Class.the-variants.{Is, Failure}
+use Rattle.class.specs.declared.ClassReading.{ClassReading}
+use Rattle.class.specs.declared.Events.{Events}
+use Rattle.class.specs.declared.Events.the-variants.{Is as Shows, OverCurrent, Disagree}
 
 -- the rule of the budgets' table: each is a demand that a well-made port may have, and so is what a number that is no class has.
 -- The test is computed once over the table
@@ -18,17 +21,18 @@ pub budget-is-demand : (class : ℕ) → isDemand (budgetOf class) ≡ true
 unfolding isDemand budgetOf all some
 budget-is-demand class = entry-or (λ x. isDemand (tenths x)) 0 budgets refl refl class
 
--- a class is at most 4
-abbrev pub atMostFour : Class → Bool
-atMostFour (Is k) = leb k 4
-atMostFour Failure = true
+-- a class is at most 4, if there is one
+abbrev pub atMostFour : Events → Bool
+atMostFour (Shows k) = leb k 4
+atMostFour OverCurrent = true
+atMostFour Disagree = true
 
 abbrev FourOrLess : Class → Type 0
-FourOrLess c = atMostFour c ≡ true
+FourOrLess c = atMostFour (alone c) ≡ true
 
-pub class-at-most-four : (current : ℕ) → atMostFour (classOf current) ≡ true
-unfolding classOf
-class-at-most-four i =
+alone-at-most-four : (current : ℕ) → atMostFour (alone (classOf current)) ≡ true
+unfolding classOf alone
+alone-at-most-four i =
     choice FourOrLess (leb i 5000) _ _ refl
     (choice FourOrLess (leb i 13000) _ _ refl
     (choice FourOrLess (leb i 21000) _ _ refl
@@ -36,7 +40,9 @@ class-at-most-four i =
     (choice FourOrLess (leb i 45000) _ _ refl
     refl))))
 
-pub class-of-two-at-most-four : (c1 c2 : ℕ) → atMostFour (classOfTwo c1 c2) ≡ true
+pub class-of-two-at-most-four : (c1 c2 : ℕ) → atMostFour (classOfTwo c1 c2 .shown) ≡ true
 unfolding classOfTwo
 class-of-two-at-most-four c1 c2 =
-    choice FourOrLess (isFour (classOf c1)) _ _ (choice FourOrLess (isFour (classOf c2)) _ _ refl refl) (class-at-most-four c1)
+    choice (λ (r : ClassReading). atMostFour (r .shown) ≡ true) (isFour (classOf c1)) _ _
+    (choice (λ (e : Events). atMostFour e ≡ true) (isFour (classOf c2)) _ _ refl refl)
+    (alone-at-most-four c1)

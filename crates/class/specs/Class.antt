@@ -9,6 +9,9 @@ use Rattle.power.specs.Power.{tenths}
 use Rattle.power.specs.declared.Power.{Power}
 use Rattle.class.specs.declared.Class.{Class}
 use Rattle.class.specs.declared.Class.the-variants.{Is, Failure}
+use Rattle.class.specs.declared.ClassReading.{ClassReading}
+use Rattle.class.specs.declared.Events.{Events}
+use Rattle.class.specs.declared.Events.the-variants.{Is as Shows, OverCurrent, Disagree}
 
 -- "from one current: up to 5,000 class 0; to 13,000 class 1; to 21,000 class 2; to 31,000 class 3; to 45,000 class 4; above, failure."
 unfoldable pub classOf : ℕ → Class
@@ -24,9 +27,18 @@ unfoldable pub isFour : Class → Bool
 isFour (Is k) = eqb k 4
 isFour Failure = false
 
--- "If C1 reads class 4, C2 must too, else failure .. With any other class C2 isn't looked at."
-unfoldable pub classOfTwo : ℕ → ℕ → Class
-classOfTwo c1 c2 = cond (isFour (classOf c1)) (cond (isFour (classOf c2)) (Is 4) Failure) (classOf c1)
+-- what a first current shows by itself: "a current above 45,000" (request [7]) is one failure of the two
+unfoldable pub alone : Class → Events
+alone (Is k) = Shows k
+alone Failure = OverCurrent
+
+-- "If C1 reads class 4, C2 must too, else failure .. With any other class C2 isn't looked at."; request [7]: "The class reading must say
+-- which, and how many of the two currents it used; a second current above 45,000 after a class 4 counts as disagreeing."
+unfoldable pub classOfTwo : ℕ → ℕ → ClassReading
+classOfTwo c1 c2 =
+    cond (isFour (classOf c1))
+    (record { shown = cond (isFour (classOf c2)) (Shows 4) Disagree; used = 2 })
+    (record { shown = alone (classOf c1); used = 1 })
 
 -- "Budgets for classes 0 to 4: 154, 40, 70, 154, 300"
 abbrev pub budgets : List ℕ

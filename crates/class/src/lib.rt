@@ -1,11 +1,25 @@
 // The class that one or two currents (µA) show, and what a port of a class may draw.
 use power::Power;
 ghost use mathlib.Core.Path.{_≡_};
-ghost use Rattle.class.specs.Class.{classOf, isFour, classOfTwo, budgetOf};
+ghost use Rattle.class.specs.Class.{classOf, isFour, alone, classOfTwo, budgetOf};
 
+// What one current shows.
 pub enum Class {
     Is(u8),
     Failure,
+}
+
+// What the class events show together: a class, or which failure.
+pub enum Events {
+    Is(u8),
+    OverCurrent,
+    Disagree,
+}
+
+// The reading of a port's two currents, and how many of them it used.
+pub struct ClassReading {
+    pub shown: Events,
+    pub used: u8,
 }
 
 // Document 01: "up to 5,000 class 0; to 13,000 class 1; to 21,000 class 2; to 31,000 class 3; to 45,000 class 4"
@@ -38,18 +52,36 @@ fn is_four(class: Class) -> bool
     }
 }
 
+fn alone(class: Class) -> Events
+    ensures { λ r. ⌜ r ≡ alone class ⌝ }
+{
+    match class {
+        Class::Is(k) => Events::Is(k),
+        Class::Failure => Events::OverCurrent,
+    }
+}
+
 // Document 01: "If C1 reads class 4, C2 must too, else failure .. With any other class C2 isn't looked at."
-pub fn class_of_two(c1: u16, c2: u16) -> Class
+pub fn class_of_two(c1: u16, c2: u16) -> ClassReading
     ensures { λ r. ⌜ r ≡ classOfTwo c1 c2 ⌝ }
 {
     let first = class_of(c1);
     if !is_four(first) {
-        return first;
+        return ClassReading {
+            shown: alone(first),
+            used: 1,
+        };
     }
     if is_four(class_of(c2)) {
-        Class::Is(4)
+        ClassReading {
+            shown: Events::Is(4),
+            used: 2,
+        }
     } else {
-        Class::Failure
+        ClassReading {
+            shown: Events::Disagree,
+            used: 2,
+        }
     }
 }
 

@@ -12,11 +12,11 @@ use Rattle.port.specs.declared.form.State.the-variants.{Idle, Detecting, Backof
 use Rattle.port.specs.declared.form.Detection.{Detection}
 use Rattle.port.specs.declared.form.Detection.the-variants.{NotDone, Valid, Invalid, Open}
 use Rattle.port.specs.declared.form.Classing.{Classing}
-use Rattle.port.specs.declared.form.Classing.the-variants.{NotDone as NotClassed, Failed, Is}
+use Rattle.port.specs.declared.form.Classing.the-variants.{NotDone as NotClassed, OverCurrent, Disagree, Is}
 use Rattle.port.specs.declared.form.Reading.{Reading}
 use Rattle.port.specs.declared.form.Moved.{Moved}
 use Rattle.diagram.specs.Limits.{detectingEnds, backoffEnds, errorDelayEnds, classifyingEnds, powerUpEnds, faultBy, loadAbsent}
-use Rattle.port.specs.Changes.{withClass, withDemand, withCounts, detectionAt, backoffAt, errorDelayAt, powerOnAt, limitingAt, overloadAt, noLoadAt, quietly, latching, asking, latchValid, latchInvalid, latchShort, latchOverload, latchAbsent}
+use Rattle.port.specs.Changes.{withClass, withDemand, withCounts, detectionAt, backoffAt, errorDelayAt, powerOnAt, limitingAt, overloadAt, noLoadAt, quietly, latching, asking, latchDisagree, latchOverCurrent, latchValid, latchInvalid, latchShort, latchOverload, latchAbsent}
 use Rattle.port.specs.Entry.{up, during, enter}
 
 -- alternative B
@@ -59,10 +59,12 @@ errorDelay p =
     let q = withCounts (errorDelayAt (up (p .counts .«error_delay»)) (p .counts)) p in
     quietly (cond (errorDelayEnds (q .counts .«error_delay»)) (enter Idle q) q)
 
--- "Else if class is done: failure to IDLE; a class sets class and demand, and asks for POWER_UP."
+-- "Else if class is done: failure to IDLE; a class sets class and demand, and asks for POWER_UP."; request [7]: "Status bit 13 latches
+-- "class over current" and bit 14 "events disagree" .. The port's moves stay the same."
 unfoldable pub classed : Classing → Port → Moved
 classed NotClassed q = quietly q
-classed Failed q = quietly (enter Idle q)
+classed OverCurrent q = latching latchOverCurrent (enter Idle q)
+classed Disagree q = latching latchDisagree (enter Idle q)
 classed (Is k d) q = asking (withClass k (withDemand d q))
 
 -- "CLASSIFYING (power-on counter from entry): at 400 to IDLE."

@@ -29,6 +29,16 @@ use status::Latches;
 ghost use mathlib.Core.Path.{_≡_};
 ghost use Rattle.diagram.specs.Rules.{isB, idle, detected, detecting, backoff, errorDelay, classed, classifying, stressed, watched, risen, powerUp, powerOn, testMode, testError};
 
+const DISAGREE: Latches = Latches {
+    disagree: true,
+    ..Latches::NONE
+};
+
+const OVER_CURRENT: Latches = Latches {
+    over_current: true,
+    ..Latches::NONE
+};
+
 const VALID: Latches = Latches {
     valid: true,
     ..Latches::NONE
@@ -152,7 +162,8 @@ fn classed(class: Classing, port: Port) -> Moved
 {
     match class {
         Classing::NotDone => quietly(port),
-        Classing::Failed => quietly(enter(State::Idle, port)),
+        Classing::OverCurrent => latching(OVER_CURRENT, enter(State::Idle, port)),
+        Classing::Disagree => latching(DISAGREE, enter(State::Idle, port)),
         Classing::Is(k, d) => asking(Port {
             class: k,
             demand: d,

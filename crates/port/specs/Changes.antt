@@ -60,20 +60,26 @@ abbrev pub asking : Port → Moved
 asking p = record { port = p; latched = noLatches; asks = true }
 
 -- each latch by itself
+abbrev pub latchDisagree : Latches
+latchDisagree = record { disagree = true; «over_current» = false; denied = false; valid = false; invalid = false; short = false; overload = false; absent = false }
+
+abbrev pub latchOverCurrent : Latches
+latchOverCurrent = record { disagree = false; «over_current» = true; denied = false; valid = false; invalid = false; short = false; overload = false; absent = false }
+
 abbrev pub latchDenied : Latches
-latchDenied = record { denied = true; valid = false; invalid = false; short = false; overload = false; absent = false }
+latchDenied = record { disagree = false; «over_current» = false; denied = true; valid = false; invalid = false; short = false; overload = false; absent = false }
 
 abbrev pub latchValid : Latches
-latchValid = record { denied = false; valid = true; invalid = false; short = false; overload = false; absent = false }
+latchValid = record { disagree = false; «over_current» = false; denied = false; valid = true; invalid = false; short = false; overload = false; absent = false }
 
 abbrev pub latchInvalid : Latches
-latchInvalid = record { denied = false; valid = false; invalid = true; short = false; overload = false; absent = false }
+latchInvalid = record { disagree = false; «over_current» = false; denied = false; valid = false; invalid = true; short = false; overload = false; absent = false }
 
 abbrev pub latchShort : Latches
-latchShort = record { denied = false; valid = false; invalid = false; short = true; overload = false; absent = false }
+latchShort = record { disagree = false; «over_current» = false; denied = false; valid = false; invalid = false; short = true; overload = false; absent = false }
 
 abbrev pub latchOverload : Latches
-latchOverload = record { denied = false; valid = false; invalid = false; short = false; overload = true; absent = false }
+latchOverload = record { disagree = false; «over_current» = false; denied = false; valid = false; invalid = false; short = false; overload = true; absent = false }
 
 abbrev pub latchAbsent : Latches
-latchAbsent = record { denied = false; valid = false; invalid = false; short = false; overload = false; absent = true }
+latchAbsent = record { disagree = false; «over_current» = false; denied = false; valid = false; invalid = false; short = false; overload = false; absent = true }

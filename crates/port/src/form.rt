@@ -45,7 +45,8 @@ pub enum Detection {
 
 pub enum Classing {
     NotDone,
-    Failed,
+    OverCurrent,
+    Disagree,
     // A class and its budget.
     Is(u8, Power),
 }

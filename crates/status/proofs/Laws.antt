@@ -21,7 +21,9 @@ condition-small Faulty = omega arith
 
 -- a status word shows each latch, the class and the condition, and nothing else
 pub record Shows (l : Latches) (class : ℕ) (c : Condition) (word : ℕ) : Type 0 where
-  pub high : above 13 word ≡ false
+  pub high : above 15 word ≡ false
+  pub disagree : bit 14 word ≡ l .disagree
+  pub over-current : bit 13 word ≡ l .«over_current»
   pub denied : bit 12 word ≡ l .denied
   pub valid : bit 11 word ≡ l .valid
   pub invalid : bit 10 word ≡ l .invalid
@@ -35,6 +37,8 @@ pub record Shows (l : Latches) (class : ℕ) (c : Condition) (word : ℕ) : Type
 pub status-shows : (l : Latches) (class : ℕ) (c : Condition) → class < 8 → Shows l class c (statusWord l class c)
 unfolding statusWord bit field above
 status-shows l k c h =
+    let i = one-small (l .disagree) in
+    let j = one-small (l .«over_current») in
     let a = one-small (l .denied) in
     let b = one-small (l .valid) in
     let d = one-small (l .invalid) in
@@ -44,7 +48,9 @@ status-shows l k c h =
     let s = condition-small c in
     let w = statusWord l k c in
     record {
-      high = lt-leb 8192 w (omega arith);
+      high = lt-leb 32768 w (omega arith);
+      disagree = one-says (l .disagree) (w / 16384 % 2) (omega arith);
+      over-current = one-says (l .«over_current») (w / 8192 % 2) (omega arith);
       denied = one-says (l .denied) (w / 4096 % 2) (omega arith);
       valid = one-says (l .valid) (w / 2048 % 2) (omega arith);
       invalid = one-says (l .invalid) (w / 1024 % 2) (omega arith);

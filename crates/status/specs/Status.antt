@@ -1,18 +1,20 @@
--- Document 01, "Words on the management side": the status word.
+-- Document 01, "Words on the management side": the status word, with the two latches of request [7].
 use Prim.Native.Nat.{ℕ, _+_, _*_, _%_}
 use mathlib.Core.Bool.{false, _||_}
-use Rattle.lists.specs.Bits.{place}
+use Rattle.status.specs.Kinds.{bitOf, placed}
 use Rattle.status.specs.declared.Latches.{Latches}
 use Rattle.status.specs.declared.Condition.{Condition}
 use Rattle.status.specs.declared.Condition.the-variants.{Disabled, Searching, Delivering, Testing, Faulty}
 
 abbrev pub noLatches : Latches
-noLatches = record { denied = false; valid = false; invalid = false; short = false; overload = false; absent = false }
+noLatches = record { disagree = false; «over_current» = false; denied = false; valid = false; invalid = false; short = false; overload = false; absent = false }
 
 -- what is latched is added to what was
 unfoldable pub join : Latches → Latches → Latches
 join l m =
     record {
+      disagree = l .disagree || m .disagree;
+      «over_current» = l .«over_current» || m .«over_current»;
       denied = l .denied || m .denied;
       valid = l .valid || m .valid;
       invalid = l .invalid || m .invalid;
@@ -29,9 +31,7 @@ conditionCode Delivering = 2
 conditionCode Testing = 3
 conditionCode Faulty = 4
 
--- "15:13 zero; latches 12 denied, 11 valid signature, 10 invalid signature, 9 short circuit, 8 overload, 7 load absent;
--- 6:4 class; 3:1 condition; bit 0 is 1." Of a class the word has room for three bits.
+-- bit 15 is zero, and the eight latches stand in 14 to 7 as `bitOf` says (request [7], in place of "15:13 zero" and six);
+-- "6:4 class; 3:1 condition; bit 0 is 1." Of a class the word has room for three bits.
 unfoldable pub statusWord : Latches → ℕ → Condition → ℕ
-statusWord l class c =
-    place 12 (l .denied) + place 11 (l .valid) + place 10 (l .invalid) + place 9 (l .short) + place 8 (l .overload) + place 7 (l .absent)
-    + 16 * (class % 8) + 2 * conditionCode c + 1
+statusWord l class c = placed bitOf l + 16 * (class % 8) + 2 * conditionCode c + 1

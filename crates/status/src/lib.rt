@@ -5,6 +5,8 @@ ghost use Rattle.lists.specs.Bits.{one};
 ghost use Rattle.status.specs.Status.{join, conditionCode, statusWord};
 
 pub struct Latches {
+    pub disagree: bool,
+    pub over_current: bool,
     pub denied: bool,
     pub valid: bool,
     pub invalid: bool,
@@ -15,6 +17,8 @@ pub struct Latches {
 
 impl Latches {
     pub const NONE: Latches = Latches {
+        disagree: false,
+        over_current: false,
         denied: false,
         valid: false,
         invalid: false,
@@ -28,6 +32,8 @@ impl Latches {
         ensures { λ r. ⌜ r ≡ join self more ⌝ }
     {
         Latches {
+            disagree: self.disagree | more.disagree,
+            over_current: self.over_current | more.over_current,
             denied: self.denied | more.denied,
             valid: self.valid | more.valid,
             invalid: self.invalid | more.invalid,
@@ -70,7 +76,9 @@ fn place(set: bool, value: u16) -> u16
 pub fn status_word(latches: Latches, class: u8, condition: Condition) -> u16
     ensures { λ r. ⌜ r ≡ statusWord latches class condition ⌝ }
 {
-    place(latches.denied, 4_096)
+    place(latches.disagree, 16_384)
+        + place(latches.over_current, 8_192)
+        + place(latches.denied, 4_096)
         + place(latches.valid, 2_048)
         + place(latches.invalid, 1_024)
         + place(latches.short, 512)

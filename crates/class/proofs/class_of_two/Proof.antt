@@ -18,7 +18,8 @@ class-of-two-spec =
     (tie.spec
     (λ c κs. search needs)
     (λ c κs. search needs)
-    (λ c. simp (← c .before .before .class-of .ensures, ← c .before .is-four .ensures, not-true (c .before .is-four .result) (c .if1 .taken)))
+    (λ c κs. search needs)
+    (λ c. simp (c .alone .ensures, ← c .before .before .before .class-of .ensures, ← c .before .before .is-four .ensures, not-true (c .before .before .is-four .result) (c .before .if1 .taken)))
     (λ c κs. search needs)
     (λ c κs. search needs)
     (λ c. simp (four (c .before .before .before), ← c .before .before .class-of2 .ensures, ← c .before .is-four2 .ensures, c .if2 .taken))

@@ -21,6 +21,10 @@ status-word-spec =
     (λ c. search needs)
     (λ c κs. search needs)
     (λ c. search needs)
+    (λ c κs. search needs)
+    (λ c. search needs)
+    (λ c κs. search needs)
+    (λ c. search needs)
     (λ c. search needs)
     (λ c. search needs)
     (λ c. search needs)
@@ -30,11 +34,13 @@ status-word-spec =
     (λ c. search needs)
     (λ c.
     simp (
-      c .before .before .before .before .before .before .place .ensures .0,
-      c .before .before .before .before .before .place2 .ensures .0,
-      c .before .before .before .before .place3 .ensures .0,
-      c .before .before .before .place4 .ensures .0,
-      c .before .before .place5 .ensures .0,
-      c .before .place6 .ensures .0,
+      c .before .before .before .before .before .before .before .before .place .ensures .0,
+      c .before .before .before .before .before .before .before .place2 .ensures .0,
+      c .before .before .before .before .before .before .place3 .ensures .0,
+      c .before .before .before .before .before .place4 .ensures .0,
+      c .before .before .before .before .place5 .ensures .0,
+      c .before .before .before .place6 .ensures .0,
+      c .before .before .place7 .ensures .0,
+      c .before .place8 .ensures .0,
       c .condition-code .ensures .0,
     )))
