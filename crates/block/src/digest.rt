@@ -1,5 +1,5 @@
 // What a tick is told of a port by this board's sample.
-use class::Class;
+use class::Events;
 use class::budget;
 use class::class_of_two;
 use port::form::Classing;
@@ -25,12 +25,13 @@ fn detection_of(signature: Signature) -> Detection
     }
 }
 
-fn classing_of(class: Class) -> Classing
-    ensures { λ r. ⌜ r ≡ classingOf class ⌝ }
+fn classing_of(events: Events) -> Classing
+    ensures { λ r. ⌜ r ≡ classingOf events ⌝ }
 {
-    match class {
-        Class::Is(k) => Classing::Is(k, budget(k)),
-        Class::Failure => Classing::Failed,
+    match events {
+        Events::Is(k) => Classing::Is(k, budget(k)),
+        Events::OverCurrent => Classing::OverCurrent,
+        Events::Disagree => Classing::Disagree,
     }
 }
 
@@ -44,10 +45,12 @@ fn detection(done: bool, s: Sample) -> Detection
 }
 
 fn classing(done: bool, s: Sample) -> Classing
-    ensures { λ r. ⌜ r ≡ cond done (classingOf (classOfTwo (s .c1) (s .c2))) Classing.NotDone ⌝ }
+    ensures { λ r. ⌜ r ≡ cond done (classingOf (classOfTwo (s .c1) (s .c2) .shown)) Classing.NotDone ⌝ }
 {
     if done {
-        return classing_of(class_of_two(s.c1, s.c2));
+        let reading = class_of_two(s.c1, s.c2);
+        let shown = reading.shown;
+        return classing_of(shown);
     }
     Classing::NotDone
 }

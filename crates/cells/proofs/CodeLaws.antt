@@ -56,6 +56,8 @@ code-again n h =
 pub latches-back : (l : Latches) → latchesOf (latchByte l) ≡ l
 unfolding latchesOf latchByte bit
 latches-back l =
+    let g = one-small (l .disagree) in
+    let c = one-small (l .«over_current») in
     let d = one-small (l .denied) in
     let v = one-small (l .valid) in
     let i = one-small (l .invalid) in
@@ -64,6 +66,8 @@ latches-back l =
     let a = one-small (l .absent) in
     λ k.
     record {
+      disagree = one-says (l .disagree) (latchByte l / 2 ^ 7 % 2) (omega arith) k;
+      «over_current» = one-says (l .«over_current») (latchByte l / 2 ^ 6 % 2) (omega arith) k;
       denied = one-says (l .denied) (latchByte l / 2 ^ 5 % 2) (omega arith) k;
       valid = one-says (l .valid) (latchByte l / 2 ^ 4 % 2) (omega arith) k;
       invalid = one-says (l .invalid) (latchByte l / 2 ^ 3 % 2) (omega arith) k;
@@ -72,17 +76,28 @@ latches-back l =
       absent = one-says (l .absent) (latchByte l / 2 ^ 0 % 2) (omega arith) k;
     }
 
-pub latches-small : (l : Latches) → latchByte l < 64
+pub latches-small : (l : Latches) → latchByte l < 256
 unfolding latchByte
-latches-small l = omega (arith, one-small (l .denied), one-small (l .valid), one-small (l .invalid), one-small (l .short), one-small (l .overload), one-small (l .absent))
+latches-small l =
+    omega (
+      arith,
+      one-small (l .disagree),
+      one-small (l .«over_current»),
+      one-small (l .denied),
+      one-small (l .valid),
+      one-small (l .invalid),
+      one-small (l .short),
+      one-small (l .overload),
+      one-small (l .absent),
+    )
 
--- a byte below 64 is the latches that it names
-pub latches-again : (n : ℕ) → n < 64 → latchByte (latchesOf n) ≡ n
+-- a byte is the latches that it names
+pub latches-again : (n : ℕ) → n < 256 → latchByte (latchesOf n) ≡ n
 unfolding all tabulate latchByte latchesOf bit
 latches-again n h =
-    ap (λ (m : ℕ). latchByte (latchesOf m)) (sym (getD-tabulate 64 (λ k. k) 0 n h))
-    ∙ eqb-true _ _ (entry (λ m. eqb (latchByte (latchesOf m)) m) 0 (tabulate 64 (λ k. k)) refl n h)
-    ∙ getD-tabulate 64 (λ k. k) 0 n h
+    ap (λ (m : ℕ). latchByte (latchesOf m)) (sym (getD-tabulate 256 (λ k. k) 0 n h))
+    ∙ eqb-true _ _ (entry (λ m. eqb (latchByte (latchesOf m)) m) 0 (tabulate 256 (λ k. k)) refl n h)
+    ∙ getD-tabulate 256 (λ k. k) 0 n h
 
 -- ---- what the rules ask of a state, asked of its code
 

@@ -152,11 +152,11 @@ is-written n f l m few long same ours others =
 
 pub holds-state : (l : List ℕ) (p : ℕ) → portHolds l p ≡ true → getD l (8 + p) 0 ≤ 9
 unfolding portHolds
-holds-state l p e = leb-true (getD l (8 + p) 0) 9 (and-left (leb (getD l (8 + p) 0) 9) (ltb (getD l (200 + p) 0) 64) e)
+holds-state l p e = leb-true (getD l (8 + p) 0) 9 (and-left (leb (getD l (8 + p) 0) 9) (ltb (getD l (200 + p) 0) 256) e)
 
-pub holds-latches : (l : List ℕ) (p : ℕ) → portHolds l p ≡ true → getD l (200 + p) 0 < 64
+pub holds-latches : (l : List ℕ) (p : ℕ) → portHolds l p ≡ true → getD l (200 + p) 0 < 256
 unfolding portHolds
-holds-latches l p e = ltb-true (getD l (200 + p) 0) 64 (and-right (leb (getD l (8 + p) 0) 9) (ltb (getD l (200 + p) 0) 64) e)
+holds-latches l p e = ltb-true (getD l (200 + p) 0) 256 (and-right (leb (getD l (8 + p) 0) 9) (ltb (getD l (200 + p) 0) 256) e)
 
 -- a field of the port that the cells are is its cell
 pub field-of : (l : List ℕ) (p : ℕ) → portHolds l p ≡ true → (g : ℕ) → g < 12 → getD (fieldsOf (portOf l p)) g 0 ≡ getD l (8 + mostPorts * g + p) 0

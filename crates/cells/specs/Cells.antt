@@ -55,9 +55,9 @@ portOf l p =
 unfoldable pub tableOf : List ℕ → Table
 tableOf l = record { ports = tabulate mostPorts (portOf l); count = countCell l; supply = tenths (supplyCell l) }
 
--- a state up to 9, and no latch bit over 5 set
+-- a state up to 9, and no latch bit over 7 set
 unfoldable pub portHolds : List ℕ → ℕ → Bool
-portHolds l p = leb (getD l (8 + p) 0) 9 && ltb (getD l (200 + p) 0) 64
+portHolds l p = leb (getD l (8 + p) 0) 9 && ltb (getD l (200 + p) 0) 256
 
 -- the cells are a table: there are as many as it has, and each port below the count has a state and latches that there are
 unfoldable pub isTable : List ℕ → Bool

@@ -1,8 +1,9 @@
 -- A state and the latches as numbers: in a cell of a lent table, and in a byte of an image.
-use Prim.Native.Nat.{ℕ, _+_}
+use Prim.Native.Nat.{ℕ, _-_}
 use mathlib.Core.Bool.{cond}
 use lib.Dec.{eqb}
-use Rattle.lists.specs.Bits.{bit, place}
+use Rattle.lists.specs.Bits.{bit}
+use Rattle.status.specs.Kinds.{Kind, Disagree, OverCurrent, Denied, Valid, Invalid, Short, Overload, Absent, bitOf, placed}
 use Rattle.status.specs.declared.Latches.{Latches}
 use Rattle.port.specs.declared.form.State.{State}
 use Rattle.port.specs.declared.form.State.the-variants.{Disabled, Idle, Detecting, Backoff, Classifying, PowerUp, PowerOn, ErrorDelay, TestMode, TestError}
@@ -20,9 +21,23 @@ stateOf n =
     (cond (eqb n 7) ErrorDelay
     (cond (eqb n 8) TestMode TestError))))))))
 
--- docs/CONSOLE.md: "bit 5 denied, 4 valid, 3 invalid, 2 short circuit, 1 overload, 0 load absent"
+-- docs/CONSOLE.md: "bit 7 events disagree, 6 class over current, 5 denied, 4 valid, 3 invalid, 2 short circuit, 1 overload, 0 load absent":
+-- each latch stands seven places lower than in the status word
+abbrev pub placeOf : Kind → ℕ
+placeOf kind = bitOf kind - 7
+
 unfoldable pub latchByte : Latches → ℕ
-latchByte l = place 5 (l .denied) + place 4 (l .valid) + place 3 (l .invalid) + place 2 (l .short) + place 1 (l .overload) + place 0 (l .absent)
+latchByte l = placed placeOf l
 
 unfoldable pub latchesOf : ℕ → Latches
-latchesOf n = record { denied = bit 5 n; valid = bit 4 n; invalid = bit 3 n; short = bit 2 n; overload = bit 1 n; absent = bit 0 n }
+latchesOf n =
+    record {
+      disagree = bit (placeOf Disagree) n;
+      «over_current» = bit (placeOf OverCurrent) n;
+      denied = bit (placeOf Denied) n;
+      valid = bit (placeOf Valid) n;
+      invalid = bit (placeOf Invalid) n;
+      short = bit (placeOf Short) n;
+      overload = bit (placeOf Overload) n;
+      absent = bit (placeOf Absent) n;
+    }

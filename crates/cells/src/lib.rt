@@ -45,6 +45,8 @@ pub fn latches_of(cell: u16) -> Latches
     ensures { λ r. ⌜ r ≡ latchesOf cell ⌝ }
 {
     Latches {
+        disagree: cell / 128 % 2 == 1,
+        over_current: cell / 64 % 2 == 1,
         denied: cell / 32 % 2 == 1,
         valid: cell / 16 % 2 == 1,
         invalid: cell / 8 % 2 == 1,
@@ -64,7 +66,9 @@ fn place(set: bool, value: u16) -> u16
 pub fn latch_cell(latches: Latches) -> u16
     ensures { λ r. ⌜ r ≡ latchByte latches ⌝ }
 {
-    place(latches.denied, 32)
+    place(latches.disagree, 128)
+        + place(latches.over_current, 64)
+        + place(latches.denied, 32)
         + place(latches.valid, 16)
         + place(latches.invalid, 8)
         + place(latches.short, 4)

@@ -31,7 +31,7 @@ abbrev FourOrLess : Class → Type 0
 FourOrLess c = atMostFour (alone c) ≡ true
 
 alone-at-most-four : (current : ℕ) → atMostFour (alone (classOf current)) ≡ true
-unfolding classOf alone
+unfolding classOf
 alone-at-most-four i =
     choice FourOrLess (leb i 5000) _ _ refl
     (choice FourOrLess (leb i 13000) _ _ refl

@@ -28,7 +28,7 @@ isFour (Is k) = eqb k 4
 isFour Failure = false
 
 -- what a first current shows by itself: "a current above 45,000" (request [7]) is one failure of the two
-unfoldable pub alone : Class → Events
+abbrev pub alone : Class → Events
 alone (Is k) = Shows k
 alone Failure = OverCurrent
 

@@ -1,5 +1,6 @@
 // The answers, written into the room for output from a place on. Each function says where the next byte goes.
-use class::Class;
+use class::ClassReading;
+use class::Events;
 use fields::Fields;
 use fields::Form;
 use reader::ReadAnswer;
@@ -104,13 +105,21 @@ pub fn signature(out: &mut [u8], at: usize, shown: Signature) -> usize {
     }
 }
 
-pub fn class(out: &mut [u8], at: usize, shown: Class) -> usize {
+fn events(out: &mut [u8], at: usize, shown: Events) -> usize {
     match shown {
-        Class::Is(k) => {
+        Events::Is(k) => {
             let to = text(out, at, b"class");
-            let past = number(out, to, k as u64);
-            end(out, past)
+            number(out, to, k as u64)
         }
-        Class::Failure => line(out, at, b"failure"),
+        Events::OverCurrent => text(out, at, b"overcurrent"),
+        Events::Disagree => text(out, at, b"disagree"),
     }
+}
+
+pub fn class(out: &mut [u8], at: usize, reading: ClassReading) -> usize {
+    let shown = reading.shown;
+    let to = events(out, at, shown);
+    let past = text(out, to, b" used");
+    let last = number(out, past, reading.used as u64);
+    end(out, last)
 }

@@ -346,8 +346,8 @@ fn class(line: &[u8], out: &mut [u8], at: usize) -> usize {
     if over(65_535, a, 0, 2) {
         return bad_line(out, at);
     }
-    let shown = class::class_of_two(short(a.n[0]), short(a.n[1]));
-    crate::answers::class(out, at, shown)
+    let reading = class::class_of_two(short(a.n[0]), short(a.n[1]));
+    crate::answers::class(out, at, reading)
 }
 
 // The commands that have nothing to do with a table.

@@ -24,8 +24,8 @@ use Rattle.class.specs.Class.{classOf, isFour, classOfTwo}
 use Rattle.class.proofs.Laws.{atMostFour, class-of-two-at-most-four}
 use Rattle.sample.specs.Sample.{sampleAt, reservedFlags, flagsOf}
 use Rattle.signature.specs.Signature.{outside, signatureOf}
-use Rattle.class.specs.declared.Class.{Class}
-use Rattle.class.specs.declared.Class.the-variants.{Is, Failure}
+use Rattle.class.specs.declared.Events.{Events}
+use Rattle.class.specs.declared.Events.the-variants.{Is, OverCurrent, Disagree}
 use Rattle.sample.specs.declared.Sample.{Sample}
 use Rattle.signature.specs.declared.Signature.{Signature}
 use Rattle.signature.specs.declared.Signature.the-variants.{Valid, Invalid, Open}
@@ -63,11 +63,17 @@ signature-back Valid = refl
 signature-back Invalid = refl
 signature-back Open = refl
 
-abbrev c1Of : Class → ℕ
+abbrev c1Of : Events → ℕ
 c1Of (Is k) = getD (5000 ∷ 13000 ∷ 21000 ∷ 31000 ∷ 45000 ∷ []) k 0
-c1Of Failure = 65535
+c1Of OverCurrent = 65535
+c1Of Disagree = 45000
 
-class-back : (x : Class) → atMostFour x ≡ true → classOfTwo (c1Of x) 45000 ≡ x
+abbrev c2Of : Events → ℕ
+c2Of (Is k) = 45000
+c2Of OverCurrent = 45000
+c2Of Disagree = 0
+
+class-back : (x : Events) → atMostFour x ≡ true → classOfTwo (c1Of x) (c2Of x) .shown ≡ x
 unfolding classOfTwo classOf isFour
 class-back (Is zero) e = refl
 class-back (Is (suc zero)) e = refl
@@ -75,18 +81,19 @@ class-back (Is (suc (suc zero))) e = refl
 class-back (Is (suc (suc (suc zero)))) e = refl
 class-back (Is (suc (suc (suc (suc zero))))) e = refl
 class-back (Is (suc (suc (suc (suc (suc k)))))) e = absurd (omega (arith, leb-true (suc (suc (suc (suc (suc k))))) 4 e))
-class-back Failure e = refl
+class-back OverCurrent e = refl
+class-back Disagree e = refl
 
 -- ---- the sample that shows what s shows
 
 abbrev signatureIn : Sample → Signature
 signatureIn s = signatureOf (s .v1) (s .v2) (s .i1) (s .i2)
 
-abbrev classIn : Sample → Class
-classIn s = classOfTwo (s .c1) (s .c2)
+abbrev classIn : Sample → Events
+classIn s = classOfTwo (s .c1) (s .c2) .shown
 
 unfoldable plain : Sample → Sample
-plain s = record { v1 = 4000; v2 = v2Of (signatureIn s); i1 = 0; i2 = i2Of (signatureIn s); c1 = c1Of (classIn s); c2 = 45000; flags = s .flags }
+plain s = record { v1 = 4000; v2 = v2Of (signatureIn s); i1 = 0; i2 = i2Of (signatureIn s); c1 = c1Of (classIn s); c2 = c2Of (classIn s); flags = s .flags }
 
 module _ (s : Sample) where
   plain-signature : signatureIn (plain s) ≡ signatureIn s
@@ -232,15 +239,21 @@ module _ (n : ℕ) (block : List ℕ) where
       small Open = omega arith
   word-small s f (suc (suc (suc (suc zero)))) = small (classIn s)
     where
-      small : (x : Class) → c1Of x < 65536
+      small : (x : Events) → c1Of x < 65536
       small (Is zero) = omega arith
       small (Is (suc zero)) = omega arith
       small (Is (suc (suc zero))) = omega arith
       small (Is (suc (suc (suc zero)))) = omega arith
       small (Is (suc (suc (suc (suc zero))))) = omega arith
       small (Is (suc (suc (suc (suc (suc k)))))) = omega arith
-      small Failure = omega arith
-  word-small s f (suc (suc (suc (suc (suc zero))))) = omega arith
+      small OverCurrent = omega arith
+      small Disagree = omega arith
+  word-small s f (suc (suc (suc (suc (suc zero))))) = small (classIn s)
+    where
+      small : (x : Events) → c2Of x < 65536
+      small (Is k) = omega arith
+      small OverCurrent = omega arith
+      small Disagree = omega arith
   word-small s f (suc (suc (suc (suc (suc (suc zero)))))) = f
   word-small s f (suc (suc (suc (suc (suc (suc (suc j))))))) = omega arith
 

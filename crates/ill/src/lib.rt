@@ -44,13 +44,13 @@ fn bad_counter(cells: &[u16], p: usize) -> bool
         | (2_000 < cells[536 + p])
 }
 
-// There are ten states and six latches; "a counter over 2,000, a class over 4, a control word that a write refuses with 3, or a demand not .."
+// There are ten states and eight latches; "a counter over 2,000, a class over 4, a control word that a write refuses with 3, or a demand not .."
 fn bad_port(cells: &[u16], p: usize) -> bool
     requires { ⌜ (length (now cells) ≡ cellsLong) × (p < 48) ⌝ }
     ensures { λ r. ⌜ r ≡ illAt (now (cells .entry)) p ⌝ }
 {
     (9 < cells[8 + p])
-        | (64 <= cells[200 + p])
+        | (256 <= cells[200 + p])
         | bad_counter(cells, p)
         | (4 < cells[152 + p])
         | bad_word(cells[56 + p] as u64)

@@ -92,9 +92,7 @@ module _ (t : Table) (p : ℕ) (h : p < mostPorts) where
   port-takes : portReads (imageOf t) (6 + imagePort * p) ≡ true
   unfolding portReads portBytes
   port-takes =
-      let a = image-at t p 0 (6 + imagePort * p) h (omega arith) (omega arith) in
-      let b = image-at t p 6 (6 + imagePort * p + 6) h (omega arith) (omega arith) in
-      simp (a, b, le-leb _ _ (code-small (port .state)), lt-ltb _ _ (latches-small (port .latches)))
+      simp (image-at t p 0 (6 + imagePort * p) h (omega arith) (omega arith), le-leb _ _ (code-small (port .state)))
 
   port-there : getD (t .ports) p noPort ≡ portIn (imageOf t) (6 + imagePort * p)
   unfolding portAt
@@ -158,13 +156,11 @@ module _ (bytes : List ℕ) (octets : (k : ℕ) → getD bytes k 0 < 256) where
   port-again : (at : ℕ) → portReads bytes at ≡ true → portBytes (portIn bytes at) ≡ tabulate imagePort (λ q. getD bytes (at + q) 0)
   unfolding portBytes portIn countsIn portReads tabulate
   port-again at e =
-      let state = leb-true _ _ (and-left (leb (getD bytes at 0) 9) (ltb (getD bytes (at + 6) 0) 64) e) in
-      let latches = ltb-true _ _ (and-right (leb (getD bytes at 0) 9) (ltb (getD bytes (at + 6) 0) 64) e) in
-      ap₂ _∷_ (code-again (getD bytes at 0) state ∙ ap (λ (n : ℕ). getD bytes n 0) (omega arith))
+      ap₂ _∷_ (code-again (getD bytes at 0) (leb-true _ _ e) ∙ ap (λ (n : ℕ). getD bytes n 0) (omega arith))
       (word-again (at + 1) (at + 1) (at + 2) _ _ refl (omega arith)
       (ap₂ _∷_ refl
       (word-again (at + 4) (at + 4) (at + 5) _ _ refl (omega arith)
-      (ap₂ _∷_ (latches-again (getD bytes (at + 6) 0) latches)
+      (ap₂ _∷_ (latches-again (getD bytes (at + 6) 0) (octets (at + 6)))
       (word-again (at + 7) (at + 7) (at + 8) _ _ refl (omega arith)
       (word-again (at + 7 + 2) (at + 9) (at + 10) _ _ (omega arith) (omega arith)
       (word-again (at + 7 + 4) (at + 11) (at + 12) _ _ (omega arith) (omega arith)

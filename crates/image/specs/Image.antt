@@ -50,7 +50,7 @@ imageOf t = tabulate imageLong (byteAt t)
 unfoldable pub portSaves : List ℕ → ℕ → Bool
 portSaves l p = portHolds l p && ltb (getD l (152 + p) 0) 256
 
--- docs/CONSOLE.md: "no image holds cells of another number than 728, nor a state over 9, latches over 63 or a class over 255 at any of the 48 places"
+-- docs/CONSOLE.md: "no image holds cells of another number than 728, nor a state over 9, latches over 255 or a class over 255 at any of the 48 places"
 unfoldable pub imageable : List ℕ → Bool
 imageable l = eqb (length l) cellsLong && every mostPorts (portSaves l)
 

@@ -2,7 +2,7 @@
 use Prim.Native.Nat.{ℕ, _+_, _*_}
 use mathlib.Core.Bool.{Bool, cond, _&&_}
 use mathlib.Core.List.{List}
-use lib.Dec.{leb, ltb, eqb}
+use lib.Dec.{leb, eqb}
 use lib.ListN.{length, getD}
 use Rattle.lists.specs.Bytes.{wordAt}
 use Rattle.sizes.specs.Sizes.{mostPorts}
@@ -43,9 +43,9 @@ portIn bytes at =
 unfoldable pub tableIn : List ℕ → Table
 tableIn bytes = record { ports = tabulate mostPorts (λ p. portIn bytes (6 + imagePort * p)); count = wordAt bytes 0; supply = tenths (wordAt bytes 4) }
 
--- no state over 9, and no latch bit over 5 set
+-- no state over 9; each of the eight bits of a latch byte is a latch
 unfoldable pub portReads : List ℕ → ℕ → Bool
-portReads bytes at = leb (getD bytes at 0) 9 && ltb (getD bytes (at + 6) 0) 64
+portReads bytes at = leb (getD bytes at 0) 9
 
 -- an image: 1,014 bytes, a supply that fits the table's type, and every port reads
 unfoldable pub reads : List ℕ → Bool

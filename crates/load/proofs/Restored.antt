@@ -6,10 +6,9 @@ use mathlib.Core.List.{List}
 use Prim.Native.Nat.{ℕ, _+_, _*_, _≤_, _<_}
 use native.Mathlib.Nat.{le-refl}
 use native.Mathlib.Omega.{arith}
-use lib.Dec.{leb, ltb}
 use lib.ListN.{length, getD, set, replicate, length-set, length-replicate, getD-replicate}
 use lib.Seq.{getD-set-other}
-use borrow.Author.Tests.{leb-true, ltb-true}
+use borrow.Author.Tests.{leb-true}
 use Rattle.lists.specs.Bytes.{wordAt}
 use Rattle.sizes.specs.Sizes.{mostPorts}
 use Rattle.image.specs.Image.{imagePort}
@@ -19,21 +18,16 @@ use Rattle.port.specs.States.{codeOf}
 use Rattle.port.specs.declared.form.Port.{Port}
 use Rattle.table.specs.Parts.{noPort, portAt}
 use Rattle.cells.specs.Cells.{portOf, portHolds, written, cellsOf, cellsLong}
-use Rattle.cells.proofs.CodeLaws.{code-again, latches-again}
-use Rattle.cells.specs.Codes.{stateOf, latchByte, latchesOf}
+use Rattle.cells.proofs.CodeLaws.{code-again}
+use Rattle.cells.specs.Codes.{stateOf}
 use Rattle.cells.proofs.Laws.{written-self, written-cong, written-long}
 use Rattle.cells.proofs.Pass.{stage, pass-none, pass-more, pass-all}
 use Rattle.cells.specs.Writes.{withPortCells}
 use Rattle.image.specs.Load.{portIn, portReads, tableIn}
 
-module _ (bytes : List ℕ) (at : ℕ) (e : portReads bytes at ≡ true) where
-  pub state-code : codeOf (stateOf (getD bytes at 0)) ≡ getD bytes at 0
-  unfolding portReads
-  state-code = code-again (getD bytes at 0) (leb-true (getD bytes at 0) 9 (and-left (leb (getD bytes at 0) 9) (ltb (getD bytes (at + 6) 0) 64) e))
-
-  pub latch-code : latchByte (latchesOf (getD bytes (at + 6) 0)) ≡ getD bytes (at + 6) 0
-  unfolding portReads
-  latch-code = latches-again (getD bytes (at + 6) 0) (ltb-true (getD bytes (at + 6) 0) 64 (and-right (leb (getD bytes at 0) 9) (ltb (getD bytes (at + 6) 0) 64) e))
+pub state-code : (bytes : List ℕ) (at : ℕ) → portReads bytes at ≡ true → codeOf (stateOf (getD bytes at 0)) ≡ getD bytes at 0
+unfolding portReads
+state-code bytes at e = code-again (getD bytes at 0) (leb-true (getD bytes at 0) 9 e)
 
 -- cells with the head of an image's table, and nothing else
 abbrev pub bare : List ℕ → List ℕ

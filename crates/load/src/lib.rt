@@ -20,14 +20,12 @@ fn word_at(bytes: &[u8], at: usize) -> u16
     bytes[at] as u16 * 256 + bytes[at + 1] as u16
 }
 
+// Any byte is latches.
 fn port_reads(bytes: &[u8], at: usize) -> bool
-    requires { ⌜ at + 6 < length (now bytes) ⌝ }
+    requires { ⌜ at < length (now bytes) ⌝ }
     ensures { λ r. ⌜ r ≡ portReads (now (bytes .entry)) at ⌝ }
 {
-    if 9 < bytes[at] {
-        return false;
-    }
-    bytes[at + 6] < 64
+    bytes[at] <= 9
 }
 
 fn reads(bytes: &[u8]) -> bool
@@ -76,7 +74,7 @@ fn put_counts(bytes: &[u8], at: usize, cells: &mut [u16], p: usize)
     cells[536 + p] = word_at(bytes, at + 12);
 }
 
-// A state and latches that read are their own codes.
+// A state that reads is its own code, and so is a byte of latches.
 fn put_port(bytes: &[u8], at: usize, cells: &mut [u16], p: usize)
     requires { ⌜ at + 20 < length (now bytes) ⌝ }
     requires { ⌜ portReads (now bytes) at ≡ true ⌝ }

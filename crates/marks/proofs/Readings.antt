@@ -11,10 +11,12 @@ use lib.Signed.{ltZ, leZ}
 use borrow.Author.Tests.{ltb-true, ltb-false, leb-true, leb-false, lt-ltb, le-ltb, le-leb, lt-leb}
 use Rattle.lists.proofs.Places.{side}
 use Rattle.lists.proofs.Tests.{choice-on, or-either, or-right, fails-left, fails-right, not-leb}
-use Rattle.class.specs.Class.{classOf, isFour, classOfTwo}
+use Rattle.class.specs.Class.{classOf, isFour, alone, classOfTwo}
 use Rattle.signature.specs.Signature.{outside, signatureOf}
 use Rattle.class.specs.declared.Class.{Class}
 use Rattle.class.specs.declared.Class.the-variants.{Is, Failure}
+use Rattle.class.specs.declared.ClassReading.{ClassReading}
+use Rattle.class.specs.declared.Events.the-variants.{Is as Shows, Disagree}
 use Rattle.signature.specs.declared.Signature.{Signature}
 use Rattle.signature.specs.declared.Signature.the-variants.{Valid, Invalid, Open}
 use Rattle.statements.specs.History.{isValid, isClass}
@@ -113,19 +115,23 @@ four-is i =
     bool true = refl
     bool false = refl
 
+-- the reading of two currents, of what the first shows and whether the second is class 4 too
+abbrev reading : Class → Bool → ClassReading
+reading x y = cond (isFour x) (record { shown = cond y (Shows 4) Disagree; used = 2 }) (record { shown = alone x; used = 1 })
+
 module _ (c1 c2 : ℕ) where
-  pub class-low : c1 ≤ 31000 → true ≡ isClass (classOfTwo c1 c2)
+  pub class-low : c1 ≤ 31000 → true ≡ isClass (classOfTwo c1 c2 .shown)
   unfolding classOfTwo isFour
-  class-low h = low-class (λ x. true ≡ isClass (cond (isFour x) (cond (isFour (classOf c2)) (Is 4) Failure) x)) c1 h refl refl refl refl
+  class-low h = low-class (λ x. true ≡ isClass (reading x (isFour (classOf c2)) .shown)) c1 h refl refl refl refl
 
   -- "If C1 reads class 4, C2 must too, else failure"
-  pub class-twice : 31000 < c1 → ((leb c1 45000 && ltb 31000 c2) && leb c2 45000) ≡ isClass (classOfTwo c1 c2)
+  pub class-twice : 31000 < c1 → ((leb c1 45000 && ltb 31000 c2) && leb c2 45000) ≡ isClass (classOfTwo c1 c2 .shown)
   unfolding classOfTwo isFour
   class-twice h =
       pick (leb c1 45000) (ltb 31000 c2) (leb c2 45000)
-      ∙ ap₂ (λ (x : Class) (y : Bool). isClass (cond (isFour x) (cond y (Is 4) Failure) x)) (sym (high-class c1 h)) (sym (four-is c2))
+      ∙ ap₂ (λ (x : Class) (y : Bool). isClass (reading x y .shown)) (sym (high-class c1 h)) (sym (four-is c2))
     where
-      pick : (x y z : Bool) → ((x && y) && z) ≡ isClass (cond (isFour (cond x (Is 4) Failure)) (cond (y && z) (Is 4) Failure) (cond x (Is 4) Failure))
+      pick : (x y z : Bool) → ((x && y) && z) ≡ isClass (reading (cond x (Is 4) Failure) (y && z) .shown)
       pick true true true = refl
       pick true true false = refl
       pick true false z = refl

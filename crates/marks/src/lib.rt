@@ -38,7 +38,7 @@ fn is_valid(v1: u64, v2: u64, i1: u64, i2: u64) -> bool
 
 // Document 01: "to 31,000 class 3; to 45,000 class 4; above, failure"; "If C1 reads class 4, C2 must too, else failure".
 fn is_class(c1: u64, c2: u64) -> bool
-    ensures { λ r. ⌜ r ≡ isClass (classOfTwo c1 c2) ⌝ }
+    ensures { λ r. ⌜ r ≡ isClass (classOfTwo c1 c2 .shown) ⌝ }
 {
     if c1 <= 31_000 {
         return true;

@@ -9,7 +9,7 @@ use Rattle.power.specs.declared.Power.{Power}
 use Rattle.control.specs.Control.{enableOf, pairOf}
 use Rattle.enable.specs.Enable.{isOff, isOn, isForced}
 use Rattle.port.specs.declared.form.Classing.{Classing}
-use Rattle.port.specs.declared.form.Classing.the-variants.{NotDone as NotClassed, Failed, Is}
+use Rattle.port.specs.declared.form.Classing.the-variants.{NotDone as NotClassed, OverCurrent, Disagree, Is}
 use Rattle.port.specs.declared.form.Counts.{Counts}
 use Rattle.port.specs.declared.form.Detection.{Detection}
 use Rattle.port.specs.declared.form.Detection.the-variants.{NotDone, Valid, Invalid, Open}
@@ -18,7 +18,7 @@ use Rattle.port.specs.declared.form.Port.{Port}
 use Rattle.port.specs.declared.form.Reading.{Reading}
 use Rattle.port.specs.declared.form.State.{State}
 use Rattle.port.specs.declared.form.State.the-variants.{Disabled, Idle, Detecting, Backoff, Classifying, PowerUp, PowerOn, ErrorDelay, TestMode, TestError}
-use Rattle.port.specs.Changes.{withClass, withDemand, withCounts, detectionAt, backoffAt, errorDelayAt, powerOnAt, noLoadAt, quietly, latching, asking, latchValid, latchInvalid, latchShort, latchOverload, latchAbsent}
+use Rattle.port.specs.Changes.{withClass, withDemand, withCounts, detectionAt, backoffAt, errorDelayAt, powerOnAt, noLoadAt, quietly, latching, asking, latchDisagree, latchOverCurrent, latchValid, latchInvalid, latchShort, latchOverload, latchAbsent}
 use Rattle.port.specs.Entry.{up, during, enter}
 use Rattle.port.specs.States.{closed, inTest, givesWay}
 use Rattle.diagram.specs.Limits.{detectingEnds, backoffEnds, errorDelayEnds, classifyingEnds, powerUpEnds, faultBy, loadAbsent}
@@ -59,6 +59,8 @@ pub record Outcomes (s : State) (claim : Power) (p : Port) (r : Reading) (P : Mo
   pub invalid : s ≡ Detecting → P (latching latchInvalid (enter Idle (counted s r p)))
   pub backs-off : s ≡ Detecting → P (latching latchInvalid (enter Backoff (counted s r p)))
   pub classed : s ≡ Classifying → (k : ℕ) (d : Power) → r .class ≡ Is k d → P (asking (withClass k (withDemand d (counted s r p))))
+  pub over-current : s ≡ Classifying → r .class ≡ OverCurrent → P (latching latchOverCurrent (enter Idle (counted s r p)))
+  pub disagrees : s ≡ Classifying → r .class ≡ Disagree → P (latching latchDisagree (enter Idle (counted s r p)))
   pub short : closed s ≡ true → P (latching latchShort (enter (faulted s) (counted s r p)))
   pub overload : closed s ≡ true → P (latching latchOverload (enter (faulted s) (counted s r p)))
   pub settles : s ≡ PowerUp → P (quietly (enter PowerOn (counted s r p)))
@@ -78,7 +80,8 @@ module _ (claim : Power) (p : Port) (r : Reading) (P : Moved → Type 0) where
   classed-outcome : Outcomes Classifying claim p r P → (k : Classing) → r .class ≡ k → P (classed k (counted Classifying r p))
   unfolding classed
   classed-outcome o NotClassed e = o .stays
-  classed-outcome o Failed e = o .idle
+  classed-outcome o OverCurrent e = o .over-current refl e
+  classed-outcome o Disagree e = o .disagrees refl e
   classed-outcome o (Is k d) e = o .classed refl k d e
 
   watched-outcome : (s : State) → closed s ≡ true → Outcomes s claim p r P → (sound : Moved) → P sound → P (watched (counted s r p) (enter (faulted s) (counted s r p)) sound)

@@ -4,8 +4,8 @@ use Prim.Native.Nat.{ℕ}
 use mathlib.Core.Path.{_≡_, refl}
 use mathlib.Core.Bool.{Bool, true, false, cond}
 use Rattle.sample.specs.Sample.{flagsOf}
-use Rattle.class.specs.declared.Class.{Class}
-use Rattle.class.specs.declared.Class.the-variants.{Is, Failure}
+use Rattle.class.specs.declared.Events.{Events}
+use Rattle.class.specs.declared.Events.the-variants.{Is, OverCurrent, Disagree}
 use Rattle.sample.specs.declared.Sample.{Sample}
 use Rattle.signature.specs.declared.Signature.{Signature}
 use Rattle.signature.specs.declared.Signature.the-variants.{Valid, Invalid, Open}
@@ -32,9 +32,10 @@ done true Invalid = refl
 done true Open = refl
 done false s = refl
 
-classed : (b : Bool) (k : Class) → isClassed (cond b (classingOf k) NotClassed) ≡ b
+classed : (b : Bool) (k : Events) → isClassed (cond b (classingOf k) NotClassed) ≡ b
 classed true (Is k) = refl
-classed true Failure = refl
+classed true OverCurrent = refl
+classed true Disagree = refl
 classed false k = refl
 
 pub signs-in : (s : Sample) → signsOf (digest s) ≡ signsIn (s .flags)

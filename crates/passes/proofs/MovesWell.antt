@@ -10,8 +10,8 @@ use Rattle.lists.proofs.Tests.{choice}
 use Rattle.power.specs.Power.{forced}
 use Rattle.class.specs.Class.{isDemand, classOfTwo}
 use Rattle.class.proofs.Laws.{budget-is-demand, atMostFour, class-of-two-at-most-four}
-use Rattle.class.specs.declared.Class.{Class}
-use Rattle.class.specs.declared.Class.the-variants.{Is, Failure}
+use Rattle.class.specs.declared.Events.{Events}
+use Rattle.class.specs.declared.Events.the-variants.{Is, OverCurrent, Disagree}
 use Rattle.sample.specs.declared.Sample.{Sample}
 use Rattle.sample.specs.Sample.{flagsOf}
 use Rattle.status.specs.declared.Latches.{Latches}
@@ -21,7 +21,7 @@ use Rattle.diagram.specs.Rules.{stressed}
 use Rattle.outcomes.proofs.Outcomes.{advanced, counted, faulted, step-outcome}
 use Rattle.diagram.specs.Step.{step}
 use Rattle.port.specs.declared.form.Classing.{Classing}
-use Rattle.port.specs.declared.form.Classing.the-variants.{NotDone as NotClassed, Failed, Is as Classed}
+use Rattle.port.specs.declared.form.Classing.the-variants.{NotDone as NotClassed, OverCurrent as ClassedOver, Disagree as ClassedApart, Is as Classed}
 use Rattle.port.specs.declared.form.Counts.{Counts}
 use Rattle.port.specs.declared.form.Moved.{Moved}
 use Rattle.port.specs.declared.form.Port.{Port}
@@ -34,18 +34,20 @@ use Rattle.table.proofs.WellMadePorts.{WellCounts, Well, up-small, during-small
 -- a class that was read is a class, with a budget that a port may have
 abbrev pub WellClass : Classing → Type 0
 WellClass NotClassed = Unit {0}
-WellClass Failed = Unit {0}
+WellClass ClassedOver = Unit {0}
+WellClass ClassedApart = Unit {0}
 WellClass (Classed k d) = (k ≤ 4) × (isDemand d ≡ true)
 
-classing-well : (c : Class) → atMostFour c ≡ true → WellClass (classingOf c)
+classing-well : (x : Events) → atMostFour x ≡ true → WellClass (classingOf x)
 classing-well (Is k) e = (leb-true k 4 e, budget-is-demand k)
-classing-well Failure e = tt
+classing-well OverCurrent e = tt
+classing-well Disagree e = tt
 
 pub digest-well : (s : Sample) → WellClass (digest s .class)
 unfolding digest
 digest-well s =
-    choice WellClass (flagsOf (s .flags) .«class_done») (classingOf (classOfTwo (s .c1) (s .c2))) NotClassed
-    (classing-well (classOfTwo (s .c1) (s .c2)) (class-of-two-at-most-four (s .c1) (s .c2)))
+    choice WellClass (flagsOf (s .flags) .«class_done») (classingOf (classOfTwo (s .c1) (s .c2) .shown)) NotClassed
+    (classing-well (classOfTwo (s .c1) (s .c2) .shown) (class-of-two-at-most-four (s .c1) (s .c2)))
     tt
 
 -- counters that have advanced
@@ -89,6 +91,8 @@ step-well p r g w =
       invalid = λ a. told _ Idle;
       backs-off = λ a. told _ Backoff;
       classed = λ a k d e. let b : WellClass (Classed k d) = rw e at g in record { counts = v .counts; class = b .0; control = w .control; demand = b .1 };
+      over-current = λ a b. told _ Idle;
+      disagrees = λ a b. told _ Idle;
       short = λ a. told _ (faulted s);
       overload = λ a. told _ (faulted s);
       settles = λ a. enter-well PowerOn q v;

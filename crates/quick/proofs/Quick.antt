@@ -14,7 +14,7 @@ use Rattle.enable.specs.Enable.{isOff, isOn, isForced}
 use Rattle.control.specs.declared.Enable.{Enable}
 use Rattle.control.specs.declared.Enable.the-variants.{Disabled as Off, Enabled, Forced, Reserved}
 use Rattle.port.specs.declared.form.Classing.{Classing}
-use Rattle.port.specs.declared.form.Classing.the-variants.{NotDone as NotClassed, Failed, Is}
+use Rattle.port.specs.declared.form.Classing.the-variants.{NotDone as NotClassed, OverCurrent, Disagree, Is}
 use Rattle.port.specs.declared.form.Counts.{Counts}
 use Rattle.port.specs.declared.form.Detection.{Detection}
 use Rattle.port.specs.declared.form.Detection.the-variants.{NotDone, Valid, Invalid, Open}
@@ -42,7 +42,8 @@ isDone Open = true
 
 abbrev pub isClassed : Classing → Bool
 isClassed NotClassed = false
-isClassed Failed = true
+isClassed OverCurrent = true
+isClassed Disagree = true
 isClassed (Is k d) = true
 
 unfoldable pub signsOf : Reading → FlagsShown
@@ -130,7 +131,8 @@ not-done Open h = absurd (false≢true h)
 
 not-classed : (k : Classing) → not (isClassed k) ≡ true → k ≡ NotClassed
 not-classed NotClassed h = refl
-not-classed Failed h = absurd (false≢true h)
+not-classed OverCurrent h = absurd (false≢true h)
+not-classed Disagree h = absurd (false≢true h)
 not-classed (Is k d) h = absurd (false≢true h)
 
 module _ (claim : Power) (p : Port) (r : Reading) where

@@ -14,14 +14,14 @@ use Rattle.power.specs.declared.Power.{Power}
 use Rattle.sample.specs.Sample.{flagsOf}
 use Rattle.sample.specs.declared.Sample.{Sample}
 use Rattle.class.specs.Class.{classOfTwo, budgetOf}
-use Rattle.class.specs.declared.Class.{Class}
-use Rattle.class.specs.declared.Class.the-variants.{Is, Failure}
+use Rattle.class.specs.declared.Events.{Events}
+use Rattle.class.specs.declared.Events.the-variants.{Is, OverCurrent, Disagree}
 use Rattle.control.specs.Control.{priorityOf}
 use Rattle.status.specs.Status.{join}
 use Rattle.port.specs.Entry.{enter}
 use Rattle.port.specs.States.{codeOf, closed, inTest, isIdle}
 use Rattle.port.specs.declared.form.Classing.{Classing}
-use Rattle.port.specs.declared.form.Classing.the-variants.{NotDone as NotClassed, Failed, Is as Classed}
+use Rattle.port.specs.declared.form.Classing.the-variants.{NotDone as NotClassed, OverCurrent as ClassedOver, Disagree as ClassedApart, Is as Classed}
 use Rattle.port.specs.declared.form.Moved.{Moved}
 use Rattle.port.specs.declared.form.Port.{Port}
 use Rattle.port.specs.declared.form.Reading.{Reading}
@@ -47,16 +47,18 @@ pub data Claimed (p : Port) (m : Moved) : Type 0 where
 -- a class is read with its budget
 abbrev Budgeted : Classing → Type 0
 Budgeted NotClassed = Unit {0}
-Budgeted Failed = Unit {0}
+Budgeted ClassedOver = Unit {0}
+Budgeted ClassedApart = Unit {0}
 Budgeted (Classed k d) = d ≡ budgetOf k
 
-classing-budgeted : (c : Class) → Budgeted (classingOf c)
+classing-budgeted : (x : Events) → Budgeted (classingOf x)
 classing-budgeted (Is k) = refl
-classing-budgeted Failure = tt
+classing-budgeted OverCurrent = tt
+classing-budgeted Disagree = tt
 
 read-budgeted : (s : Sample) → Budgeted (digest s .class)
 unfolding digest
-read-budgeted s = choice Budgeted (flagsOf (s .flags) .«class_done») (classingOf (classOfTwo (s .c1) (s .c2))) NotClassed (classing-budgeted (classOfTwo (s .c1) (s .c2))) tt
+read-budgeted s = choice Budgeted (flagsOf (s .flags) .«class_done») (classingOf (classOfTwo (s .c1) (s .c2) .shown)) NotClassed (classing-budgeted (classOfTwo (s .c1) (s .c2) .shown)) tt
 
 fault-open : (s : State) → closed (faulted s) ≡ false
 fault-open s = choice (λ (x : State). closed x ≡ false) (inTest s) TestError ErrorDelay refl refl
@@ -76,6 +78,8 @@ move-claims p s =
       invalid = λ a. nothing refl refl;
       backs-off = λ a. nothing refl refl;
       classed = λ a k d b. classes a a refl (subst Budgeted b (read-budgeted s));
+      over-current = λ a b. nothing refl refl;
+      disagrees = λ a b. nothing refl refl;
       short = λ a. nothing (fault-open (p .state)) refl;
       overload = λ a. nothing (fault-open (p .state)) refl;
       settles = λ a. holds (ap closed a) refl refl refl (sym (ap inTest a));
@@ -98,6 +102,8 @@ move-denies claim p r e =
       invalid = λ a. simp (or-false, e);
       backs-off = λ a. simp (or-false, e);
       classed = λ a k d b. e;
+      over-current = λ a b. simp (or-false, e);
+      disagrees = λ a b. simp (or-false, e);
       short = λ a. simp (or-false, e);
       overload = λ a. simp (or-false, e);
       settles = λ a. e;

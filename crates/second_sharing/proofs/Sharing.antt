@@ -71,7 +71,7 @@ urgency-code n = go (eqb n 0) (eqb n 1) (eqb n 2) refl refl refl
 module _ (l : List ℕ) (is : isTable l ≡ true) (p : ℕ) (h : p < getD l 0 0) where
   state-small : getD l (8 + p) 0 ≤ 9
   unfolding isTable portHolds
-  state-small = leb-true (getD l (8 + p) 0) 9 (and-left _ (ltb (getD l (200 + p) 0) 64) (every-at (getD l 0 0) (portHolds l) (and-right (eqb (length l) 728) _ is) p h))
+  state-small = leb-true (getD l (8 + p) 0) 9 (and-left _ (ltb (getD l (200 + p) 0) 256) (every-at (getD l 0 0) (portHolds l) (and-right (eqb (length l) 728) _ is) p h))
 
   closed-cell : closedCell l p ≡ closed (portOf l p .state)
   unfolding closedCell portOf

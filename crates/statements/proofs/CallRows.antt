@@ -50,7 +50,7 @@ pub conditions-hold :
 unfolding statusWord
 conditions-hold = refl
 
-pub status-clears : readStatus (table 2 300 latched latched) 1 ≡ record { table = table 2 300 latched cleared; answer = Word 0x1FA5 }
+pub status-clears : readStatus (table 2 300 latched latched) 1 ≡ record { table = table 2 300 latched cleared; answer = Word 0x7FA5 }
 unfolding readStatus statusAt unlatched tells statusWord withPort illMade illPort over someBelow portAt refused field above isDemand some
 status-clears = refl
 

@@ -12,8 +12,8 @@ use Rattle.power.specs.declared.Power.{Power}
 use Rattle.class.specs.Class.{classOfTwo}
 use Rattle.sample.specs.Sample.{flagsOf}
 use Rattle.signature.specs.Signature.{signatureOf}
-use Rattle.class.specs.declared.Class.{Class}
-use Rattle.class.specs.declared.Class.the-variants.{Is as ClassIs, Failure}
+use Rattle.class.specs.declared.Events.{Events}
+use Rattle.class.specs.declared.Events.the-variants.{Is as ClassIs, OverCurrent, Disagree}
 use Rattle.sample.specs.declared.Sample.{Sample}
 use Rattle.signature.specs.declared.Signature.{Signature}
 use Rattle.signature.specs.declared.Signature.the-variants.{Valid as SigValid, Invalid as SigInvalid, Open as SigOpen}
@@ -141,11 +141,12 @@ module _ (s : Sample) where
 
   class-given : (k : ℕ) (d : Power) → digest s .class ≡ Classed k d → givesClass s ≡ true
   unfolding digest givesClass
-  class-given k d = go (flagsOf (s .flags) .«class_done») (classOfTwo (s .c1) (s .c2))
+  class-given k d = go (flagsOf (s .flags) .«class_done») (classOfTwo (s .c1) (s .c2) .shown)
     where
-      go : (b : Bool) (g : Class) → cond b (classingOf g) NotClassed ≡ Classed k d → (b && isClass g) ≡ true
+      go : (b : Bool) (g : Events) → cond b (classingOf g) NotClassed ≡ Classed k d → (b && isClass g) ≡ true
       go true (ClassIs j) e = refl
-      go true Failure e = let z : false ≡ true = cc in z
+      go true OverCurrent e = let z : false ≡ true = cc in z
+      go true Disagree e = let z : false ≡ true = cc in z
       go false g e = let z : false ≡ true = cc in z
 
   -- a move that leaves a port as it may stand, and asks only if it may
@@ -177,6 +178,8 @@ module _ (s : Sample) where
           invalid = λ a. unasked y Idle tt;
           backs-off = λ a. unasked y Backoff tt;
           classed = λ a k d c. (stands, λ e. subst (λ (st : State). Asked st y) (sym a) (class-seen (class-given k d c) x (subst (λ (st : State). Needs st x) a n)));
+          over-current = λ a b. unasked y Idle tt;
+          disagrees = λ a b. unasked y Idle tt;
           short = λ a. faulty;
           overload = λ a. faulty;
           settles = λ a. unasked y PowerOn (on-of-up y (class-kept x (subst (λ (st : State). Needs st x) a n)));

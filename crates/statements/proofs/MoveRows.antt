@@ -4,9 +4,12 @@ use Prim.Native.Nat.{ℕ}
 use mathlib.Core.Path.{_≡_, refl}
 use mathlib.Core.Bool.{true, false}
 use mathlib.Core.List.{[], _∷_, map}
-use Rattle.lists.specs.Bits.{field}
+use Rattle.lists.specs.Bits.{bit, field}
 use Rattle.lists.specs.Count.{mask}
 use Rattle.lists.specs.Total.{total}
+use Rattle.class.specs.Class.{classOf, isFour, classOfTwo, budgetOf}
+use Rattle.sample.specs.Sample.{flagsOf}
+use Rattle.block.specs.Digest.{digest}
 use Rattle.control.specs.Control.{enableOf, pairOf, priorityOf}
 use Rattle.status.specs.Status.{join}
 use Rattle.port.specs.Entry.{up, during, enter}
@@ -21,7 +24,7 @@ use Rattle.statements.specs.CounterRows.{before, counted, counters, Endi
 use Rattle.statements.specs.ShareRows.{moved, Ranks, ranked, claims, Settles, settles, Rests, resting, rests, asker}
 
 pub rows-hold : map (λ (r : Before × Goes). move (r .0)) rows ≡ map (λ (r : Before × Goes). r .1) rows
-unfolding rows move step byState enableOf pairOf field up during idle detected detecting backoff errorDelay classed classifying stressed watched risen powerUp powerOn testMode testError enter
+unfolding rows move digest flagsOf bit classOfTwo classOf isFour budgetOf step byState enableOf pairOf field up during idle detected detecting backoff errorDelay classed classifying stressed watched risen powerUp powerOn testMode testError enter
 rows-hold = refl
 
 pub counters-hold : map (λ (r : Before × Counts). counted (r .0)) counters ≡ map (λ (r : Before × Counts). r .1) counters

@@ -16,6 +16,7 @@ use Rattle.class.specs.Class.{classOf, classOfTwo, budgetOf}
 use Rattle.sample.specs.Sample.{sampleOf, flagsOf}
 use Rattle.signature.specs.Signature.{signatureOf}
 use Rattle.class.specs.declared.Class.{Class}
+use Rattle.class.specs.declared.ClassReading.{ClassReading}
 use Rattle.sample.specs.declared.Flags.{Flags}
 use Rattle.sample.specs.declared.Sampled.{Sampled}
 use Rattle.signature.specs.declared.Signature.{Signature}
@@ -89,7 +90,7 @@ unique =
       power-join = λ self other. one Sum (joinSums self other);
       power-fits = λ self s. one Bool (fits self s);
       class-class-of = λ current. one Class (classOf current);
-      class-class-of-two = λ c1 c2. one Class (classOfTwo c1 c2);
+      class-class-of-two = λ c1 c2. one ClassReading (classOfTwo c1 c2);
       class-budget = λ c. one Power (budgetOf c);
       sample-sample-of = λ block p. one Sampled (sampleOf block p);
       sample-flags-of = λ word. one Flags (flagsOf word);

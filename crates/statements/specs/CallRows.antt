@@ -100,9 +100,9 @@ calls =
     ∷ (ticks (shared Idle 0 0 0) (samples 63) 60000, value)
     ∷ []
 
--- "Reading the status returns the word and clears that port's six latches, no more."
+-- "Reading the status returns the word and clears that port's six latches, no more."; request [7]: "both clear on a status read with the other six"
 abbrev pub latched : Port
-latched = record { state = PowerOn; class = 2; control = 0x0005; demand = tenths 70; latches = record { denied = true; valid = true; invalid = true; short = true; overload = true; absent = true }; counts = counts 1 2 3 4 5 6 7 }
+latched = record { state = PowerOn; class = 2; control = 0x0005; demand = tenths 70; latches = record { disagree = true; «over_current» = true; denied = true; valid = true; invalid = true; short = true; overload = true; absent = true }; counts = counts 1 2 3 4 5 6 7 }
 
 abbrev pub cleared : Port
 cleared = record { state = PowerOn; class = 2; control = 0x0005; demand = tenths 70; latches = noLatches; counts = counts 1 2 3 4 5 6 7 }

@@ -7,8 +7,8 @@ use Rattle.sizes.specs.Sizes.{sampleBytes}
 use Rattle.class.specs.Class.{classOfTwo}
 use Rattle.sample.specs.Sample.{sampleAt, flagsOf}
 use Rattle.signature.specs.Signature.{signatureOf}
-use Rattle.class.specs.declared.Class.{Class}
-use Rattle.class.specs.declared.Class.the-variants.{Is, Failure}
+use Rattle.class.specs.declared.Events.{Events}
+use Rattle.class.specs.declared.Events.the-variants.{Is, OverCurrent, Disagree}
 use Rattle.sample.specs.declared.Sample.{Sample}
 use Rattle.signature.specs.declared.Signature.{Signature}
 use Rattle.signature.specs.declared.Signature.the-variants.{Valid, Invalid, Open}
@@ -48,9 +48,10 @@ isValid Valid = true
 isValid Invalid = false
 isValid Open = false
 
-abbrev pub isClass : Class → Bool
+abbrev pub isClass : Events → Bool
 isClass (Is k) = true
-isClass Failure = false
+isClass OverCurrent = false
+isClass Disagree = false
 
 -- a sample shows a valid signature: detection is done and its numbers read valid
 unfoldable pub showsSignature : Sample → Bool
@@ -58,7 +59,7 @@ showsSignature s = flagsOf (s .flags) .«detection_done» && isValid (signatureO
 
 -- a sample gives a class: class is done and its currents read a class
 unfoldable pub givesClass : Sample → Bool
-givesClass s = flagsOf (s .flags) .«class_done» && isClass (classOfTwo (s .c1) (s .c2))
+givesClass s = flagsOf (s .flags) .«class_done» && isClass (classOfTwo (s .c1) (s .c2) .shown)
 
 -- what a port has shown since it last stood in IDLE: nothing; a valid signature; a valid signature, and in a later tick a class
 pub data Shown : Type 0 where

@@ -5,11 +5,11 @@ use mathlib.Core.Bool.{true, false}
 use mathlib.Core.List.{List, [], _∷_}
 use Rattle.power.specs.Power.{tenths}
 use Rattle.status.specs.Status.{noLatches}
-use Rattle.port.specs.Changes.{latchValid, latchInvalid, latchShort, latchOverload, latchAbsent}
-use Rattle.port.specs.declared.form.Classing.the-variants.{Failed, Is}
+use Rattle.port.specs.Changes.{latchDisagree, latchOverCurrent, latchValid, latchInvalid, latchShort, latchOverload, latchAbsent}
+use Rattle.port.specs.declared.form.Classing.the-variants.{OverCurrent, Disagree, Is}
 use Rattle.port.specs.declared.form.Detection.the-variants.{Valid, Invalid, Open}
 use Rattle.port.specs.declared.form.State.the-variants.{Disabled, Idle, Detecting, Backoff, Classifying, PowerUp, PowerOn, ErrorDelay, TestMode, TestError}
-use Rattle.statements.specs.MoveWords.{quiet, detects, gives, settling, limits, overloads, does-both, unloaded, off, on, force, reserved, on-b, Before, Goes, to, to-idle, to-disabled, latches, idle-with, from}
+use Rattle.statements.specs.MoveWords.{quiet, detects, gives, draws, settling, limits, overloads, does-both, unloaded, off, on, force, reserved, on-b, Before, Goes, to, to-idle, to-disabled, latches, idle-with, from}
 
 unfoldable pub rows : List (Before × Goes)
 rows =
@@ -56,8 +56,24 @@ rows =
     ∷ (from Classifying on 398 quiet, to Classifying)
     ∷ (from Classifying on 399 quiet, to-idle)
     ∷ (from Classifying on 399 (gives (Is 3 (tenths 154))), to-idle)
-    ∷ (from Classifying on 398 (gives Failed), to-idle)
     ∷ (from Classifying on 398 (gives (Is 3 (tenths 154))), record { state = Classifying; class = 3; demand = 154; latched = noLatches; asks = true })
+    -- request [7]: "Status bit 13 latches "class over current" and bit 14 "events disagree" .. The port's moves stay the same.": at 400, and
+    -- where an enable rule decides, no failure is taken; and in no other state
+    ∷ (from Classifying on 398 (gives OverCurrent), idle-with latchOverCurrent)
+    ∷ (from Classifying on 398 (gives Disagree), idle-with latchDisagree)
+    ∷ (from Classifying on 399 (gives OverCurrent), to-idle)
+    ∷ (from Classifying on 399 (gives Disagree), to-idle)
+    ∷ (from Classifying off 0 (gives OverCurrent), to-disabled)
+    ∷ (from Classifying force 0 (gives Disagree), to-idle)
+    ∷ (from Detecting on 0 (gives OverCurrent), to Detecting)
+    ∷ (from PowerUp on 0 (gives Disagree), to PowerUp)
+    -- and from the currents on
+    ∷ (from Classifying on 0 (draws 45001 0), idle-with latchOverCurrent)
+    ∷ (from Classifying on 0 (draws 45001 45001), idle-with latchOverCurrent)
+    ∷ (from Classifying on 0 (draws 45000 45001), idle-with latchDisagree)
+    ∷ (from Classifying on 0 (draws 45000 31000), idle-with latchDisagree)
+    ∷ (from Classifying on 0 (draws 45000 45000), record { state = Classifying; class = 4; demand = 300; latched = noLatches; asks = true })
+    ∷ (from Classifying on 0 (draws 31000 45001), record { state = Classifying; class = 3; demand = 154; latched = noLatches; asks = true })
     -- "60 of limiting latches 9, else 60 of overload latches 8; both go to ERROR_DELAY and end the move."
     ∷ (from PowerUp on 58 does-both, to PowerOn)
     ∷ (from PowerUp on 59 limits, latches latchShort ErrorDelay)

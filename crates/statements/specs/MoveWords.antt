@@ -5,6 +5,7 @@ use mathlib.Core.Bool.{Bool, true, false}
 use Rattle.power.specs.Power.{tenths, forced}
 use Rattle.status.specs.Status.{noLatches}
 use Rattle.status.specs.declared.Latches.{Latches}
+use Rattle.block.specs.Digest.{digest}
 use Rattle.diagram.specs.Rules.{backoff}
 use Rattle.settling.specs.Settle.{settled}
 use Rattle.diagram.specs.Step.{step}
@@ -31,6 +32,10 @@ detects d = reads d NotClassed false false false true
 
 abbrev pub gives : Classing → Reading
 gives k = reads NotDone k false false false true
+
+-- what a sample of two class currents reads, class done and nothing else
+abbrev pub draws : ℕ → ℕ → Reading
+draws c1 c2 = digest (record { v1 = 0; v2 = 0; i1 = 0; i2 = 0; c1 = c1; c2 = c2; flags = 2 })
 
 abbrev pub settling : Reading
 settling = reads NotDone NotClassed true false false true

@@ -5,9 +5,13 @@ use mathlib.Core.List.{List, [], _∷_}
 use Rattle.power.specs.Power.{tenths}
 use Rattle.power.specs.declared.Supply.the-variants.{Is as Supply-Is, TooLarge}
 use Rattle.class.specs.declared.Class.the-variants.{Is, Failure}
+use Rattle.class.specs.declared.ClassReading.{ClassReading}
+use Rattle.class.specs.declared.Events.{Events}
+use Rattle.class.specs.declared.Events.the-variants.{Is as Shows, OverCurrent, Disagree}
+use Prim.Native.Nat.{ℕ}
 use Rattle.sample.specs.declared.Sampled.the-variants.{Is as Whole, Cut}
 use Rattle.signature.specs.declared.Signature.the-variants.{Valid, Invalid, Open}
-use Rattle.statements.specs.Rows.{Row, signature, voltage, class, two-currents, budget-of, demand, sample, flags-of, flags-reserved, supply, forced-claim, shows, is-class, power, sampled, flags, figure, test}
+use Rattle.statements.specs.Rows.{Row, signature, voltage, class, two-currents, budget-of, demand, sample, flags-of, flags-reserved, supply, forced-claim, shows, is-class, reads, power, sampled, flags, figure, test}
 
 -- each voltage limit of the signature, the least dV, and currents that stand still or fall
 unfoldable pub signatures : List Row
@@ -37,7 +41,12 @@ signatures =
     ∷ (signature 65535 65535 65535 65535, shows Invalid)
     ∷ []
 
--- each limit of the class and one past it; what a second current does
+-- what two currents show, and how many of them were used
+abbrev shown : Events → ℕ → ClassReading
+shown e n = record { shown = e; used = n }
+
+-- each limit of the class and one past it; what a second current does, and which failure it is: request [7], "a second current above 45,000
+-- after a class 4 counts as disagreeing"
 unfoldable pub classes : List Row
 classes =
     (class 0, is-class (Is 0))
@@ -52,16 +61,28 @@ classes =
     ∷ (class 45000, is-class (Is 4))
     ∷ (class 45001, is-class Failure)
     ∷ (class 65535, is-class Failure)
-    ∷ (two-currents 31001 31001, is-class (Is 4))
-    ∷ (two-currents 45000 45000, is-class (Is 4))
-    ∷ (two-currents 31001 31000, is-class Failure)
-    ∷ (two-currents 45000 45001, is-class Failure)
-    ∷ (two-currents 31001 0, is-class Failure)
-    ∷ (two-currents 31000 45001, is-class (Is 3))
-    ∷ (two-currents 0 65535, is-class (Is 0))
-    ∷ (two-currents 13000 31001, is-class (Is 1))
-    ∷ (two-currents 21000 31001, is-class (Is 2))
-    ∷ (two-currents 45001 31001, is-class Failure)
+    ∷ (two-currents 31001 31001, reads (shown (Shows 4) 2))
+    ∷ (two-currents 45000 45000, reads (shown (Shows 4) 2))
+    ∷ (two-currents 45000 31001, reads (shown (Shows 4) 2))
+    ∷ (two-currents 45000 45001, reads (shown Disagree 2))
+    ∷ (two-currents 31001 45001, reads (shown Disagree 2))
+    ∷ (two-currents 45000 65535, reads (shown Disagree 2))
+    ∷ (two-currents 31001 31000, reads (shown Disagree 2))
+    ∷ (two-currents 45000 0, reads (shown Disagree 2))
+    ∷ (two-currents 31001 0, reads (shown Disagree 2))
+    ∷ (two-currents 45001 45000, reads (shown OverCurrent 1))
+    ∷ (two-currents 45001 45001, reads (shown OverCurrent 1))
+    ∷ (two-currents 45001 31001, reads (shown OverCurrent 1))
+    ∷ (two-currents 45001 0, reads (shown OverCurrent 1))
+    ∷ (two-currents 65535 65535, reads (shown OverCurrent 1))
+    ∷ (two-currents 31000 45000, reads (shown (Shows 3) 1))
+    ∷ (two-currents 31000 45001, reads (shown (Shows 3) 1))
+    ∷ (two-currents 21000 31001, reads (shown (Shows 2) 1))
+    ∷ (two-currents 21000 45001, reads (shown (Shows 2) 1))
+    ∷ (two-currents 13000 31001, reads (shown (Shows 1) 1))
+    ∷ (two-currents 13000 45000, reads (shown (Shows 1) 1))
+    ∷ (two-currents 5000 45001, reads (shown (Shows 0) 1))
+    ∷ (two-currents 0 65535, reads (shown (Shows 0) 1))
     ∷ []
 
 -- the five budgets, the five demands and their neighbours, the forced claim and the highest supply

@@ -11,6 +11,7 @@ use Rattle.class.specs.Class.{classOf, classOfTwo, budgetOf, isDemand}
 use Rattle.sample.specs.Sample.{sampleOf, flagsOf, reservedFlags}
 use Rattle.signature.specs.Signature.{outside, signatureOf}
 use Rattle.class.specs.declared.Class.{Class}
+use Rattle.class.specs.declared.ClassReading.{ClassReading}
 use Rattle.sample.specs.declared.Sampled.{Sampled}
 use Rattle.sample.specs.declared.Flags.{Flags}
 use Rattle.signature.specs.declared.Signature.{Signature}
@@ -55,6 +56,7 @@ pub data Question : Type 0 where
 pub data Answer : Type 0 where
   shows : Signature → Answer
   is-class : Class → Answer
+  reads : ClassReading → Answer
   power : Power → Answer
   sampled : Sampled → Answer
   flags : Flags → Answer
@@ -71,7 +73,7 @@ meaning (differences dV dI) = shows (signatureOf 4000 (4000 + dV) 1000 (1000 + d
 meaning (signature v1 v2 i1 i2) = shows (signatureOf v1 v2 i1 i2)
 meaning (voltage v) = test (outside v)
 meaning (class current) = is-class (classOf current)
-meaning (two-currents c1 c2) = is-class (classOfTwo c1 c2)
+meaning (two-currents c1 c2) = reads (classOfTwo c1 c2)
 meaning (budget-of k) = power (budgetOf k)
 meaning (demand d) = test (isDemand (tenths d))
 meaning (sample block port) = sampled (sampleOf block port)

@@ -18,6 +18,7 @@ use Rattle.class.specs.Class.{classOf, classOfTwo, budgetOf}
 use Rattle.sample.specs.Sample.{sampleOf, flagsOf}
 use Rattle.signature.specs.Signature.{signatureOf}
 use Rattle.class.specs.declared.Class.{Class}
+use Rattle.class.specs.declared.ClassReading.{ClassReading}
 use Rattle.sample.specs.declared.Flags.{Flags}
 use Rattle.sample.specs.declared.Sample.{Sample}
 use Rattle.sample.specs.declared.Sampled.{Sampled}
@@ -96,7 +97,7 @@ pub record Unique : Type 0 where
   pub power-join : (self other : Sum) → One Sum (λ r. r ≡ joinSums self other)
   pub power-fits : (self : Sum) (s : Power) → One Bool (λ r. r ≡ fits self s)
   pub class-class-of : (current : ℕ) → One Class (λ r. r ≡ classOf current)
-  pub class-class-of-two : (c1 c2 : ℕ) → One Class (λ r. r ≡ classOfTwo c1 c2)
+  pub class-class-of-two : (c1 c2 : ℕ) → One ClassReading (λ r. r ≡ classOfTwo c1 c2)
   pub class-budget : (c : ℕ) → One Power (λ r. r ≡ budgetOf c)
   pub sample-sample-of : (block : List ℕ) (p : ℕ) → One Sampled (λ r. r ≡ sampleOf block p)
   pub sample-flags-of : (word : ℕ) → One Flags (λ r. r ≡ flagsOf word)

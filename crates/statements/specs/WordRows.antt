@@ -1,10 +1,11 @@
 -- Rows at the limits of the words: control words and status words. Proved in proofs/Limits.
 -- Assumes nothing.
-use mathlib.Core.Bool.{true, false}
+use mathlib.Core.Bool.{Bool, true, false}
 use mathlib.Core.List.{List, [], _∷_}
 use Rattle.control.specs.declared.Enable.the-variants.{Disabled, Enabled, Forced, Reserved}
 use Rattle.control.specs.declared.Pair.the-variants.{Neither, A, B, Both}
 use Rattle.control.specs.declared.Priority.the-variants.{Unknown, Critical, High, Low}
+use Rattle.status.specs.declared.Latches.{Latches}
 use Rattle.status.specs.declared.Condition.the-variants.{Disabled as Off, Searching, Delivering, Testing, Faulty}
 use Rattle.statements.specs.Rows.{Row, refusal-3, fields, status, control, word, test}
 
@@ -67,24 +68,31 @@ controls =
     ∷ (fields 51, control (record { enable = Reserved; pair = Neither; priority = Low }))
     ∷ []
 
+-- the latches in the order of their bits, 14 to 7
+abbrev lit : Bool → Bool → Bool → Bool → Bool → Bool → Bool → Bool → Latches
+lit a b c d e f g h = record { disagree = a; «over_current» = b; denied = c; valid = d; invalid = e; short = f; overload = g; absent = h }
+
 -- each latch, each condition and each class of a status word
 unfoldable pub statuses : List Row
 statuses =
-    (status (record { denied = true; valid = false; invalid = false; short = false; overload = false; absent = false }) 0 Off, word 4097)
-    ∷ (status (record { denied = false; valid = true; invalid = false; short = false; overload = false; absent = false }) 0 Off, word 2049)
-    ∷ (status (record { denied = false; valid = false; invalid = true; short = false; overload = false; absent = false }) 0 Off, word 1025)
-    ∷ (status (record { denied = false; valid = false; invalid = false; short = true; overload = false; absent = false }) 0 Off, word 513)
-    ∷ (status (record { denied = false; valid = false; invalid = false; short = false; overload = true; absent = false }) 0 Off, word 257)
-    ∷ (status (record { denied = false; valid = false; invalid = false; short = false; overload = false; absent = true }) 0 Off, word 129)
-    ∷ (status (record { denied = false; valid = false; invalid = false; short = false; overload = false; absent = false }) 0 Off, word 1)
-    ∷ (status (record { denied = false; valid = false; invalid = false; short = false; overload = false; absent = false }) 0 Searching, word 3)
-    ∷ (status (record { denied = false; valid = false; invalid = false; short = false; overload = false; absent = false }) 0 Delivering, word 5)
-    ∷ (status (record { denied = false; valid = false; invalid = false; short = false; overload = false; absent = false }) 0 Testing, word 7)
-    ∷ (status (record { denied = false; valid = false; invalid = false; short = false; overload = false; absent = false }) 0 Faulty, word 9)
-    ∷ (status (record { denied = false; valid = false; invalid = false; short = false; overload = false; absent = false }) 0 Off, word 1)
-    ∷ (status (record { denied = false; valid = false; invalid = false; short = false; overload = false; absent = false }) 1 Off, word 17)
-    ∷ (status (record { denied = false; valid = false; invalid = false; short = false; overload = false; absent = false }) 2 Off, word 33)
-    ∷ (status (record { denied = false; valid = false; invalid = false; short = false; overload = false; absent = false }) 3 Off, word 49)
-    ∷ (status (record { denied = false; valid = false; invalid = false; short = false; overload = false; absent = false }) 4 Off, word 65)
-    ∷ (status (record { denied = true; valid = true; invalid = true; short = true; overload = true; absent = true }) 4 Faulty, word 8137)
+    (status (lit true false false false false false false false) 0 Off, word 16385)
+    ∷ (status (lit false true false false false false false false) 0 Off, word 8193)
+    ∷ (status (lit false false true false false false false false) 0 Off, word 4097)
+    ∷ (status (lit false false false true false false false false) 0 Off, word 2049)
+    ∷ (status (lit false false false false true false false false) 0 Off, word 1025)
+    ∷ (status (lit false false false false false true false false) 0 Off, word 513)
+    ∷ (status (lit false false false false false false true false) 0 Off, word 257)
+    ∷ (status (lit false false false false false false false true) 0 Off, word 129)
+    ∷ (status (lit false false false false false false false false) 0 Off, word 1)
+    ∷ (status (lit false false false false false false false false) 0 Searching, word 3)
+    ∷ (status (lit false false false false false false false false) 0 Delivering, word 5)
+    ∷ (status (lit false false false false false false false false) 0 Testing, word 7)
+    ∷ (status (lit false false false false false false false false) 0 Faulty, word 9)
+    ∷ (status (lit false false false false false false false false) 0 Off, word 1)
+    ∷ (status (lit false false false false false false false false) 1 Off, word 17)
+    ∷ (status (lit false false false false false false false false) 2 Off, word 33)
+    ∷ (status (lit false false false false false false false false) 3 Off, word 49)
+    ∷ (status (lit false false false false false false false false) 4 Off, word 65)
+    ∷ (status (lit true true false false false false false false) 0 Off, word 24577)
+    ∷ (status (lit true true true true true true true true) 4 Faulty, word 32713)
     ∷ []

@@ -19,7 +19,7 @@ fn port_saves(cells: &[u16], p: usize) -> bool
     if 9 < cells[8 + p] {
         return false;
     }
-    if 64 <= cells[200 + p] {
+    if 256 <= cells[200 + p] {
         return false;
     }
     cells[152 + p] < 256

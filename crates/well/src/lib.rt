@@ -69,7 +69,7 @@ fn port_fine(cells: &[u16], p: usize) -> bool
         & control_fine(cells[56 + p])
         & demand_fine(cells[104 + p])
         & (cells[8 + p] <= 9)
-        & (cells[200 + p] < 64)
+        & (cells[200 + p] < 256)
 }
 
 // What is fine is a number, which adds up eight at a time; a flag would be one after the other.

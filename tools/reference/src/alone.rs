@@ -1,6 +1,6 @@
 //! What a script should have tried one by one: each flag alone, each word of the
-//! six flags in each state, each bit of a control word, each status word, a count
-//! of 49, bytes that an earlier line left. A move counts here only if a dump shows what it left.
+//! six flags in each state, each bit of a control word, each set of latches in a
+//! status, each pair of class currents at a limit, a count of 49, bytes that an earlier line left. A move counts here only if a dump shows what it left.
 
 use std::collections::{BTreeMap, BTreeSet};
 use std::fmt::Write;
@@ -8,7 +8,7 @@ use std::fmt::Write;
 use crate::count::state_name;
 use crate::lines::{bytes_of, Answer, Line};
 use crate::port::{control_reserved, Port, State, STATES};
-use crate::reading::{Sample, LOAD_PRESENT, RESERVED_FLAGS, SAMPLE_BYTES};
+use crate::reading::{Sample, CLASS_DONE, LOAD_PRESENT, RESERVED_FLAGS, SAMPLE_BYTES};
 use crate::table::Table;
 use crate::tlv::HIGHEST_VALUE;
 
@@ -22,6 +22,9 @@ const CALLS_AT_49: [&str; 5] =
 /// On both sides of each limit of a power value: of document 01's 255, and of
 /// request [4]'s 999.
 pub const LIMIT_VALUES: [u64; 7] = [0, 1, 255, 256, 999, 1_000, 65_535];
+
+/// On both sides of the limits that a class failure hangs on, and the ends.
+pub const CLASS_EDGES: [u16; 6] = [0, 31_000, 31_001, 45_000, 45_001, 65_535];
 
 /// Where a value is tried alone: nothing else of the line could be refused.
 const VALUE_PLACES: [&str; 6] = [
@@ -41,7 +44,7 @@ pub struct Alone {
     /// The flag's bit, whether in another port than 0.
     flags: BTreeMap<(u32, bool), u64>,
     /// Moves of the last tick: kept if a dump comes next.
-    open: Vec<(State, u16)>,
+    open: Vec<(State, Sample)>,
     words: BTreeMap<(State, u16), u64>,
     control_words: BTreeSet<u64>,
     control_bits: BTreeSet<u32>,
@@ -49,6 +52,9 @@ pub struct Alone {
     /// Where a value stood alone, and the value.
     values: BTreeSet<(&'static str, u64)>,
     status_words: BTreeSet<u16>,
+    /// Pairs of class currents: of a class line, and of a tick in CLASSIFYING.
+    class_lines: BTreeSet<[u16; 2]>,
+    class_moves: BTreeSet<[u16; 2]>,
     /// Of the only port, where nothing else of it could be refused.
     demands: BTreeSet<u16>,
     at_49: BTreeMap<&'static str, u64>,
@@ -57,13 +63,29 @@ pub struct Alone {
     left: Vec<u8>,
 }
 
+fn at_edges(pairs: &BTreeSet<[u16; 2]>) -> usize {
+    pairs.iter().filter(|pair| pair.iter().all(|c| CLASS_EDGES.contains(c))).count()
+}
+
 impl Alone {
+    fn latch_sets(&self) -> usize {
+        self.status_words.iter().map(|word| word >> 7).collect::<BTreeSet<_>>().len()
+    }
+
+    fn latches_by_rest(&self) -> usize {
+        let parts = |word: u16| (7..15).map(move |bit| (bit, word >> bit & 1, word & 0x7F));
+        self.status_words.iter().flat_map(|&word| parts(word)).collect::<BTreeSet<_>>().len()
+    }
+
     pub fn line(&mut self, before: &Table, line: &Line, answer: &Answer) {
         let open = std::mem::take(&mut self.open);
         match (line, answer) {
             (Line::Dump, Answer::Image(_)) => {
-                for word in open {
-                    *self.words.entry(word).or_default() += 1;
+                for (state, sample) in open {
+                    *self.words.entry((state, sample.flags)).or_default() += 1;
+                    if state == State::Classifying && sample.has(CLASS_DONE) {
+                        self.class_moves.insert(sample.class_currents);
+                    }
                 }
             }
             (Line::Tick(_, block), Answer::Ticked(_)) => self.accepted(before, block),
@@ -88,6 +110,9 @@ impl Alone {
                     self.values(2, e.requested, e.allocated);
                 }
             }
+            (Line::Class(c1, c2), _) => {
+                self.class_lines.insert([*c1, *c2]);
+            }
             (Line::Status(0), Answer::Refused(13)) => self.demand(before),
             (Line::Status(_), Answer::Status(word)) => {
                 self.status_words.insert(*word);
@@ -111,8 +136,9 @@ impl Alone {
 
     fn accepted(&mut self, before: &Table, block: &[u8]) {
         for p in 0..usize::from(before.count) {
-            let flags = Sample::of_port(block, p).flags;
-            self.open.push((before.ports[p].state, flags));
+            let sample = Sample::of_port(block, p);
+            let flags = sample.flags;
+            self.open.push((before.ports[p].state, sample));
             if flags.is_power_of_two() {
                 *self.flags.entry((flags.trailing_zeros(), p > 0)).or_default() += 1;
             }
@@ -173,9 +199,7 @@ impl Alone {
         };
         let past = |k: usize| self.left.get(bytes.len() + k).copied().unwrap_or(0);
         let name = match answer {
-            Answer::Ok if matches!(line, Line::Table(_)) && (past(0) > 9 || past(6) > 63) => {
-                LEFT_IMAGE
-            }
+            Answer::Ok if matches!(line, Line::Table(_)) && past(0) > 9 => LEFT_IMAGE,
             Answer::Ticked(_) if past(12) > 0 || past(13) > 63 => LEFT_FLAGS,
             _ => "",
         };
@@ -239,10 +263,21 @@ impl Alone {
         sets.extend([
             ("control words below 64 in DISABLED".into(), 64, self.control_words.len()),
             (bits.into(), 58, self.control_bits.len()),
+            ("sets of latches in a status".into(), 256, self.latch_sets()),
             (
-                "latches by class by condition in a status".into(),
-                64 * 5 * 5,
-                self.status_words.len(),
+                "each latch set and clear in a status, by class by condition".into(),
+                2 * 8 * 5 * 5,
+                self.latches_by_rest(),
+            ),
+            (
+                "pairs of class currents at a limit, of a class line".into(),
+                CLASS_EDGES.len().pow(2),
+                at_edges(&self.class_lines),
+            ),
+            (
+                "pairs of class currents at a limit, of a tick in CLASSIFYING, then a dump".into(),
+                CLASS_EDGES.len().pow(2),
+                at_edges(&self.class_moves),
             ),
             ("demands below 64, the only port's".into(), 64, low),
             ("values at a step of the request, by class".into(), 5 * edges.len(), near),

@@ -35,13 +35,9 @@ pub fn reserved(cell: usize) -> bool {
     (2..HEAD).contains(&cell) || cell >= at(RESERVED, 0)
 }
 
-/// None if no port has them: a state over 9, a latch bit over 5, a class over 255.
+/// None if no port has them: a state over 9, latches or a class over 255.
 fn port(cells: &[u16], place: usize) -> Option<Port> {
     let of = |field| cells[at(field, place)];
-    let latches = of(LATCHES);
-    if latches > 63 {
-        return None;
-    }
     let mut counters = [0; 7];
     for (k, counter) in counters.iter_mut().enumerate() {
         *counter = of(COUNTERS + k);
@@ -51,7 +47,7 @@ fn port(cells: &[u16], place: usize) -> Option<Port> {
         control: of(CONTROL),
         class: u8::try_from(of(CLASS)).ok()?,
         demand: of(DEMAND),
-        latches: latches as u8,
+        latches: u8::try_from(of(LATCHES)).ok()?,
         counters,
     })
 }

@@ -2,7 +2,7 @@
 //! counter that stands at 2,000, and what the ranking sheds.
 
 use crate::port::{Port, State, State::*, LIMITED, NO_LOAD, OVER, POWER_ON};
-use crate::reading::{Sample, Signature};
+use crate::reading::{Failure, Sample, Signature};
 use crate::table::{Exit, Table};
 
 const SMALLER: &str = "a smaller claim below the first that does not fit";
@@ -52,7 +52,7 @@ fn by(exit: &Exit, from: State, rule: &str) -> bool {
 }
 
 /// Two rules at once, one short of a limit, and the stop at 2,000.
-pub const CORNERS: [(&str, Meets); 26] = [
+pub const CORNERS: [(&str, Meets); 34] = [
     ("DETECTING at 500 with a valid signature", |e, _, s| {
         by(e, Detecting, "at 500") && s.has(1) && s.signature() == Signature::Valid
     }),
@@ -68,7 +68,33 @@ pub const CORNERS: [(&str, Meets); 26] = [
         matches!(e.from, Backoff | ErrorDelay | TestError) && b.enable() == 2
     }),
     ("CLASSIFYING at 400 with a class", |e, _, s| {
-        by(e, Classifying, "at 400") && s.has(2) && s.class().is_some()
+        by(e, Classifying, "at 400") && s.has(2) && s.class().is_ok()
+    }),
+    ("CLASSIFYING at 400 with a first current above 45,000", |e, _, s| {
+        by(e, Classifying, "at 400") && s.has(2) && s.class() == Err(Failure::OverCurrent)
+    }),
+    ("CLASSIFYING at 400 with events that disagree", |e, _, s| {
+        by(e, Classifying, "at 400") && s.has(2) && s.class() == Err(Failure::Disagree)
+    }),
+    ("CLASSIFYING at 399, over current", |e, b, _| {
+        by(e, Classifying, "over current") && next(b, POWER_ON) == 399
+    }),
+    ("CLASSIFYING at 399, events disagree", |e, b, _| {
+        by(e, Classifying, "events disagree") && next(b, POWER_ON) == 399
+    }),
+    ("CLASSIFYING, 45,001 and then class 4", |e, _, s| {
+        by(e, Classifying, "over current")
+            && s.class_currents[0] == 45_001
+            && (31_001..=45_000).contains(&s.class_currents[1])
+    }),
+    ("CLASSIFYING, class 4 and then 45,001", |e, _, s| {
+        by(e, Classifying, "events disagree") && s.class_currents[1] == 45_001
+    }),
+    ("CLASSIFYING, class 4 and then 31,000", |e, _, s| {
+        by(e, Classifying, "events disagree") && s.class_currents[1] == 31_000
+    }),
+    ("CLASSIFYING, 31,000 and then 45,001, asking", |e, _, s| {
+        e.from == Classifying && e.rule.starts_with("asks") && s.class_currents == [31_000, 45_001]
     }),
     ("CLASSIFYING at 399, asking", |e, b, _| {
         e.from == Classifying && e.rule.starts_with("asks") && next(b, POWER_ON) == 399

@@ -16,7 +16,7 @@ use crate::reasons::{reasons, ORDERS};
 use crate::table::Exit;
 
 /// Every way a port can leave a tick.
-pub const EXITS: [(State, State, &str); 52] = [
+pub const EXITS: [(State, State, &str); 53] = [
     (Disabled, Disabled, "enable 00"),
     (Disabled, Idle, "enabled"),
     (Idle, Disabled, "enable 00"),
@@ -41,7 +41,8 @@ pub const EXITS: [(State, State, &str); 52] = [
     (Classifying, Disabled, "enable 00"),
     (Classifying, Idle, "enable 10"),
     (Classifying, Idle, "at 400"),
-    (Classifying, Idle, "failure"),
+    (Classifying, Idle, "over current"),
+    (Classifying, Idle, "events disagree"),
     (Classifying, PowerUp, "asks and is kept"),
     (Classifying, Idle, "asks and is shed"),
     (Classifying, Classifying, "stays"),
@@ -72,13 +73,15 @@ pub const EXITS: [(State, State, &str); 52] = [
 ];
 
 /// Latches by their bit in the image, then in the status word.
-const LATCHES: [&str; 6] = [
+const LATCHES: [&str; 8] = [
     "7 load absent",
     "8 overload",
     "9 short circuit",
     "10 invalid signature",
     "11 valid signature",
     "12 denied",
+    "13 class over current",
+    "14 events disagree",
 ];
 
 /// "Order of checks".
@@ -144,7 +147,7 @@ struct Counts {
     /// The last line's call and answer, and those that are shown.
     last_call: Option<(&'static str, String)>,
     shown_calls: BTreeMap<(&'static str, String), u64>,
-    latches: [u64; 6],
+    latches: [u64; 8],
     refusals: BTreeMap<(&'static str, u8), u64>,
     answers: BTreeMap<(&'static str, String), u64>,
     orders: BTreeMap<(&'static str, u8, u8), u64>,

@@ -26,9 +26,9 @@ pub fn written(table: &Table) -> Vec<u8> {
     image
 }
 
-/// None is "`bad image` if the length is not 1,014, a state is over 9, a latch
-/// bit over 5 is set, or the supply figure does not fit the table's type", which
-/// has 16 bits. All 48 places are looked at, past the count too.
+/// None is "`bad image` if the length is not 1,014, a state is over 9, or the
+/// supply figure does not fit the table's type", which has 16 bits. All 48 places
+/// are looked at, past the count too.
 pub fn read(image: &[u8]) -> Option<Table> {
     if image.len() != IMAGE_BYTES {
         return None;
@@ -52,10 +52,6 @@ fn word(bytes: &[u8], at: usize) -> u16 {
 
 fn read_port(bytes: &[u8]) -> Option<Port> {
     let state = *STATES.get(usize::from(bytes[0]))?;
-    let latches = bytes[6];
-    if latches >> 6 != 0 {
-        return None;
-    }
     let mut counters = [0; 7];
     for (k, counter) in counters.iter_mut().enumerate() {
         *counter = word(bytes, 7 + 2 * k);
@@ -65,7 +61,7 @@ fn read_port(bytes: &[u8]) -> Option<Port> {
         control: word(bytes, 1),
         class: bytes[3],
         demand: word(bytes, 4),
-        latches,
+        latches: bytes[6],
         counters,
     })
 }

@@ -29,7 +29,7 @@ pub const FAULTS: [(usize, &[u16]); 12] = [
     ),
     (DEMAND, &[1, 39, 41, 69, 71, 153, 155, 296, 299, 301, 410, 65_535]),
     (CLASS, &[5, 255, 256, 260]),
-    (LATCHES, &[64, 128, 256, 65_535]),
+    (LATCHES, &[256, 319, 512, 65_535]),
     (COUNTERS, &[2_001, 65_535]),
     (COUNTERS + 1, &[2_001, 65_535]),
     (COUNTERS + 2, &[2_001, 65_535]),
@@ -54,10 +54,10 @@ const ALL: [&str; 5] = ["cold", "control", "status", "request", "tick"];
 
 const STRAY: &str = "another number of cells than 728";
 const STATE_BELOW: &str = "a state over 9 below the count, and no other fault";
-const LATCHES_BELOW: &str = "latches over 63 below the count, and no other fault";
+const LATCHES_BELOW: &str = "latches over 255 below the count, and no other fault";
 const CLASS_BELOW: &str = "a class over 255 below the count, and no other fault";
 const STATE_PAST: &str = "a state over 9 at or past the count";
-const LATCHES_PAST: &str = "latches over 63 at or past the count";
+const LATCHES_PAST: &str = "latches over 255 at or past the count";
 const CLASS_PAST: &str = "a class over 255 at or past the count";
 const CLOSED_PAST: &str = "a closed port at or past the count";
 const RESERVED_HEAD: &str = "reserved cells of the head not 0";
@@ -96,7 +96,7 @@ const NO_IMAGE: [&str; 7] = [
     STRAY,
     "a state over 9 below the count",
     STATE_PAST,
-    "latches over 63 below the count",
+    "latches over 255 below the count",
     LATCHES_PAST,
     "a class over 255 below the count",
     CLASS_PAST,
@@ -125,7 +125,7 @@ fn broken(field: usize, value: u16) -> bool {
         CONTROL => control_reserved(u64::from(value)),
         DEMAND => ![0, 40, 70, 154, 300].contains(&value),
         CLASS => value > 4,
-        LATCHES => value > 63,
+        LATCHES => value > 255,
         field if field < COUNTERS + 7 => value > 2_000,
         _ => false,
     }
@@ -135,7 +135,7 @@ fn broken(field: usize, value: u16) -> bool {
 fn odd(field: usize, value: u16) -> bool {
     match field {
         STATE => value > 9,
-        LATCHES => value > 63,
+        LATCHES => value > 255,
         CLASS => value > 255,
         _ => false,
     }

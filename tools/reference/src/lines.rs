@@ -43,7 +43,7 @@ use std::fmt;
 
 use crate::cells;
 use crate::image;
-use crate::reading::{class, signature, Signature};
+use crate::reading::{class, signature, ClassReading, Failure, Signature};
 use crate::table::{Table, Ticked};
 use crate::tlv::{self, Extension, Fields};
 
@@ -84,7 +84,7 @@ pub enum Answer {
     Fields(Fields),
     Wrote(Vec<u8>),
     Signature(Signature),
-    Class(Option<u8>),
+    Class(ClassReading),
 }
 
 /// Rule 5.
@@ -321,10 +321,18 @@ impl fmt::Display for Answer {
             Answer::Signature(Signature::Valid) => write!(f, "valid"),
             Answer::Signature(Signature::Invalid) => write!(f, "invalid"),
             Answer::Signature(Signature::Open) => write!(f, "open"),
-            Answer::Class(Some(class)) => write!(f, "class {class}"),
-            Answer::Class(None) => write!(f, "failure"),
+            Answer::Class(reading) => class_text(f, reading),
         }
     }
+}
+
+fn class_text(f: &mut fmt::Formatter, reading: &ClassReading) -> fmt::Result {
+    match reading.class {
+        Ok(class) => write!(f, "class {class}")?,
+        Err(Failure::OverCurrent) => write!(f, "overcurrent")?,
+        Err(Failure::Disagree) => write!(f, "disagree")?,
+    }
+    write!(f, " used {}", reading.used)
 }
 
 fn fields_text(f: &mut fmt::Formatter, fields: &Fields) -> fmt::Result {

@@ -2,8 +2,8 @@
 //! management side" and "The port's move in one tick").
 
 use crate::reading::{
-    Sample, Signature, BUDGETS, CLASS_DONE, DETECTION_DONE, LIMITING, LOAD_PRESENT, OVERLOAD,
-    SETTLED,
+    Failure, Sample, Signature, BUDGETS, CLASS_DONE, DETECTION_DONE, LIMITING, LOAD_PRESENT,
+    OVERLOAD, SETTLED,
 };
 
 #[derive(Clone, Copy, PartialEq, Eq, PartialOrd, Ord, Debug)]
@@ -57,7 +57,10 @@ impl State {
 
 // Latches, placed as in the table image; the status word has them 7 places
 // higher ("latches 12 denied, 11 valid signature, 10 invalid signature,
-// 9 short circuit, 8 overload, 7 load absent").
+// 9 short circuit, 8 overload, 7 load absent"; request [7]: "Status bit 13
+// latches "class over current" and bit 14 "events disagree"").
+pub const DISAGREE: u8 = 1 << 7;
+pub const OVER_CURRENT: u8 = 1 << 6;
 pub const DENIED: u8 = 1 << 5;
 pub const VALID: u8 = 1 << 4;
 pub const INVALID: u8 = 1 << 3;
@@ -137,7 +140,7 @@ impl Port {
         }
     }
 
-    /// "15:13 zero; latches [..]; 6:4 class; 3:1 condition; bit 0 is 1."
+    /// Bit 15 zero; the eight latches; "6:4 class; 3:1 condition; bit 0 is 1."
     pub fn status_word(&self) -> u16 {
         u16::from(self.latches) << 7 | u16::from(self.class) << 4 | self.state.condition() << 1 | 1
     }
@@ -298,7 +301,7 @@ fn waiting(mut port: Port, counter: usize, limit: u16, rule: &'static str) -> Mo
 
 /// "CLASSIFYING (power-on counter from entry): at 400 to IDLE. Else if class is
 /// done: failure to IDLE; a class sets class and demand, and asks for
-/// POWER_UP."
+/// POWER_UP." A failure that is taken latches 13 or 14 (request [7]).
 fn from_classifying(mut port: Port, sample: &Sample) -> Move {
     if port.count(POWER_ON) >= 400 {
         return Move::to(port, Idle, "at 400");
@@ -307,8 +310,9 @@ fn from_classifying(mut port: Port, sample: &Sample) -> Move {
         return Move::stay(port);
     }
     match sample.class() {
-        None => Move::to(port, Idle, "failure"),
-        Some(class) => {
+        Err(Failure::OverCurrent) => Move::latching(port, Idle, OVER_CURRENT, "over current"),
+        Err(Failure::Disagree) => Move::latching(port, Idle, DISAGREE, "events disagree"),
+        Ok(class) => {
             let demand = BUDGETS[usize::from(class)];
             Move::asking(Port { class, demand, ..port }, PowerUp)
         }

@@ -42,14 +42,33 @@ pub fn class_of_current(current: u16) -> Option<u8> {
     }
 }
 
+/// Request [7]: "Support can't tell a current above 45,000 from a second event
+/// that disagrees."
+#[derive(Clone, Copy, PartialEq, Eq, Debug)]
+pub enum Failure {
+    OverCurrent,
+    Disagree,
+}
+
+/// Request [7]: "The class reading must say which, and how many of the two currents
+/// it used".
+#[derive(Clone, Copy, PartialEq, Eq, Debug)]
+pub struct ClassReading {
+    pub class: Result<u8, Failure>,
+    pub used: u8,
+}
+
 /// "If C1 reads class 4, C2 must too, else failure [..]. With any other class
-/// C2 isn't looked at."
-pub fn class(c1: u16, c2: u16) -> Option<u8> {
-    let first = class_of_current(c1);
-    if first == Some(4) && class_of_current(c2) != Some(4) {
-        return None;
-    }
-    first
+/// C2 isn't looked at." Request [7]: "a second current above 45,000 after a class 4
+/// counts as disagreeing".
+pub fn class(c1: u16, c2: u16) -> ClassReading {
+    let (class, used) = match (class_of_current(c1), class_of_current(c2)) {
+        (None, _) => (Err(Failure::OverCurrent), 1),
+        (Some(4), Some(4)) => (Ok(4), 2),
+        (Some(4), _) => (Err(Failure::Disagree), 2),
+        (Some(first), _) => (Ok(first), 1),
+    };
+    ClassReading { class, used }
 }
 
 /// "Budgets for classes 0 to 4: 154, 40, 70, 154, 300".
@@ -115,7 +134,7 @@ impl Sample {
         signature(self.voltages[0], self.voltages[1], self.currents[0], self.currents[1])
     }
 
-    pub fn class(&self) -> Option<u8> {
-        class(self.class_currents[0], self.class_currents[1])
+    pub fn class(&self) -> Result<u8, Failure> {
+        class(self.class_currents[0], self.class_currents[1]).class
     }
 }

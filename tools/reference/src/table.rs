@@ -107,7 +107,7 @@ impl Table {
     }
 
     /// "Reading the status returns the word and clears that port's six latches,
-    /// no more."
+    /// no more."; request [7]: "both clear on a status read with the other six".
     pub fn status(&mut self, port: u64) -> Result<u16, u8> {
         self.well_made()?;
         let p = self.place(port)?;

@@ -51,6 +51,45 @@ fn sixteen_cases_class() {
     assert_eq!(BUDGETS, [154, 40, 70, 154, 300]);
 }
 
+/// Request [7]: which failure it is, and how many of the two currents were used.
+#[test]
+fn class_readings() {
+    for (line, answer) in [
+        ("class 31000 45001", "class 3 used 1"),
+        ("class 31001 45000", "class 4 used 2"),
+        ("class 45000 45001", "disagree used 2"),
+        ("class 45000 31000", "disagree used 2"),
+        ("class 45001 45000", "overcurrent used 1"),
+        ("class 45001 45001", "overcurrent used 1"),
+    ] {
+        assert_eq!(said(line), answer, "{line}");
+    }
+}
+
+/// Request [7]: a failure that is taken latches 13 or 14, one at 400 nothing, and a
+/// status read clears both.
+#[test]
+fn class_failures_latch() {
+    for (ticks, c1, c2, latches) in [
+        (398, 45_001, 45_000, 0x40),
+        (398, 45_000, 45_001, 0x80),
+        (399, 45_001, 45_000, 0),
+        (399, 45_000, 45_001, 0),
+    ] {
+        let mut console = Console::new();
+        let mut cells = vec![0; 728];
+        cells[0] = 1;
+        cells[8] = 4;
+        cells[56] = 5;
+        cells[8 + 48 * 8] = ticks;
+        dialogue(&mut console, &[(&cells_said(&cells), "ok")]);
+        let tick = format!("tick 0 0000000000000000{c1:04x}{c2:04x}0002");
+        let word = format!("status {}", (latches << 7) + 3);
+        dialogue(&mut console, &[(&tick, "ticked 0 0 0"), ("status 0", &word)]);
+        dialogue(&mut console, &[("status 0", "status 3")]);
+    }
+}
+
 /// "Supply 300, closed ports 0, 1, 2 of equal priority with 154, 154, 40: port
 /// 0 stays, 1 and 2 go; at 348 all stay; at 0 none."
 #[test]
@@ -271,7 +310,7 @@ fn images() {
     dialogue(&mut console, &[("dump", &zero)]);
     let mut image = String::from("00010000ffff");
     for _ in 0..48 {
-        image += "09ffffffffff3fffffffffffffffffffffffffffff";
+        image += "09ffffffffffffffffffffffffffffffffffffffff";
     }
     dialogue(
         &mut console,
@@ -281,7 +320,6 @@ fn images() {
             ("status 0", "refused 13"),
             (&format!("table {}", image.replace("0000ffff", "00010000")), "bad image"),
             (&format!("table {}", image.replace("09ff", "0aff")), "bad image"),
-            (&format!("table {}", image.replace("ff3f", "ff40")), "bad image"),
             (&format!("table {image}00"), "bad image"),
             ("dump", &image),
         ],
@@ -306,7 +344,7 @@ fn two_ports() -> Vec<u16> {
     for field in 0..12 {
         cells[8 + 48 * field] = if field == 1 { 4 } else { 0 };
     }
-    let port = [6, 0x19, 40, 4, 63, 1, 2, 3, 4, 5, 6, 7];
+    let port = [6, 0x19, 40, 4, 255, 1, 2, 3, 4, 5, 6, 7];
     for (field, value) in port.into_iter().enumerate() {
         cells[8 + 48 * field + 1] = value;
     }
@@ -320,7 +358,7 @@ fn lent_cells() {
     shows(&mut console, &[0; 728]);
     let mut cells = two_ports();
     dialogue(&mut console, &[(&cells_said(&cells), "ok"), ("dump", "bad image")]);
-    dialogue(&mut console, &[("status 1", "status 8133")]);
+    dialogue(&mut console, &[("status 1", "status 32709")]);
     cells[8 + 48 * 4 + 1] = 0;
     shows(&mut console, &cells);
     dialogue(&mut console, &[("control 1 25", "ok"), ("request 1 130", "ok")]);
@@ -373,7 +411,7 @@ fn broken_cells() {
         dialogue(&mut console, &[(&format!("table {zero}"), "ok"), ("dump", &zero)]);
         shows(&mut console, &[0; 728]);
     }
-    for (field, least) in [(0, 10), (3, 5), (4, 64), (5, 2_001), (11, 2_001)] {
+    for (field, least) in [(0, 10), (3, 5), (4, 256), (5, 2_001), (11, 2_001)] {
         for value in [least, 65_535] {
             for place in [0, 1] {
                 let mut cells = two_ports();
@@ -413,7 +451,7 @@ fn a_script_meets_everything() {
     }
     let one_by_one = counts.lines().skip_while(|row| !row.starts_with("| One by one"));
     let rows: Vec<&str> = one_by_one.skip(2).take_while(|row| !row.is_empty()).collect();
-    assert_eq!(rows.len(), 27);
+    assert_eq!(rows.len(), 30);
     for row in rows {
         let cells: Vec<&str> = row.split(" | ").collect();
         assert_eq!(cells[1], cells[2].trim_end_matches(" |"), "{row}");

@@ -21,12 +21,18 @@ latch-cell-spec =
     (λ c. search needs)
     (λ c κs. search needs)
     (λ c. search needs)
+    (λ c κs. search needs)
+    (λ c. search needs)
+    (λ c κs. search needs)
+    (λ c. search needs)
     (λ c.
     simp (
-      c .before .before .before .before .before .place .ensures .0,
-      c .before .before .before .before .place2 .ensures .0,
-      c .before .before .before .place3 .ensures .0,
-      c .before .before .place4 .ensures .0,
-      c .before .place5 .ensures .0,
-      c .place6 .ensures .0,
+      c .before .before .before .before .before .before .before .place .ensures .0,
+      c .before .before .before .before .before .before .place2 .ensures .0,
+      c .before .before .before .before .before .place3 .ensures .0,
+      c .before .before .before .before .place4 .ensures .0,
+      c .before .before .before .place5 .ensures .0,
+      c .before .before .place6 .ensures .0,
+      c .before .place7 .ensures .0,
+      c .place8 .ensures .0,
     )))

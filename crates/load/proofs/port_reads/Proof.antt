@@ -1,7 +1,7 @@
--- `port_reads` is `portReads`: the state first, then the latches.
+-- `port_reads` is `portReads`.
 -- Assumes nothing.
+use mathlib.Core.Path.{refl}
 use borrow.Author.Needs.{needs}
-use borrow.Author.Tests.{lt-leb, le-leb}
 use Rattle.image.specs.Load.{portReads}
 use Rattle.load.proofs.port_reads.Statement.{statement}
 use Rattle.load.proofs.port_reads.Tie as tie
@@ -12,7 +12,4 @@ port-reads-spec =
     tie.close
     (tie.spec
     (λ c. search needs)
-    (λ c. simp (lt-leb _ _ (c .if1 .taken)))
-    (λ c. search needs)
-    (λ c. search needs)
-    (λ c. simp (le-leb _ _ (c .before .if1 .left))))
+    (λ c. refl))

@@ -1,13 +1,14 @@
--- `put_port` writes `portIn`, field by field: a state and latches that read are their own codes.
+-- `put_port` writes `portIn`, field by field: a state that reads is its own code, and so is a byte of latches.
 -- Assumes nothing.
 use mathlib.Core.Path.{_∙_, ap}
-use Prim.Native.Nat.{_+_}
+use Prim.Native.Nat.{_+_, _<_}
 use native.Mathlib.Omega.{arith}
-use lib.ListN.{length, length-set}
+use lib.ListN.{length, getD, length-set}
 use borrow.Author.Needs.{needs}
 use Rattle.cells.specs.Writes.{writes, withPortCells, withCountCells}
 use Rattle.image.specs.Load.{portIn}
-use Rattle.load.proofs.Restored.{state-code, latch-code}
+use Rattle.cells.proofs.CodeLaws.{latches-again}
+use Rattle.load.proofs.Restored.{state-code}
 use Rattle.load.proofs.put_port.Statement.{statement}
 use Rattle.load.proofs.put_port.Tie as tie
 
@@ -50,5 +51,6 @@ put-port-spec =
     let start = c .before .before .before .before .before .before .before .before .before .before .before in
     let bytes = start .args .bytes .now in
     let reads = start .pre .1 .0 in
+    let latch : getD bytes (start .args .at + 6) 0 < 256 = omega (arith, c .before .before .before .before .shared-slice-known4 .given (start .args .at + 6)) in
     c .before .before .put-counts .ensures
-    ∙ simp (c .before .before .before .before .before .before .before .word-at .ensures, c .before .before .before .before .before .before .word-at2 .ensures, state-code bytes (start .args .at) reads, latch-code bytes (start .args .at) reads)))
+    ∙ simp (c .before .before .before .before .before .before .before .word-at .ensures, c .before .before .before .before .before .before .word-at2 .ensures, state-code bytes (start .args .at) reads, latches-again (getD bytes (start .args .at + 6) 0) latch)))

@@ -25,4 +25,4 @@ gives-class-spec =
     (λ c κs. search needs)
     (λ c.
     ap₂ _&&_ (ap (λ (n : ℕ). eqb (n / 2 % 2) 1) (c .before .before .before .word-at .ensures .0))
-    (c .is-class .ensures ∙ ap₂ (λ (x y : ℕ). isClass (classOfTwo x y)) (c .before .before .word-at2 .ensures .0) (c .before .word-at3 .ensures .0))))
+    (c .is-class .ensures ∙ ap₂ (λ (x y : ℕ). isClass (classOfTwo x y .shown)) (c .before .before .word-at2 .ensures .0) (c .before .word-at3 .ensures .0))))

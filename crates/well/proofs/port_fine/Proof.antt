@@ -51,4 +51,4 @@ port-fine-spec =
       c .before .before .demand-fine .ensures,
       well-port-is,
     )
-    (six (wellCounts (countsOf l (a .p))) (leb (getD l (152 + a .p) 0) 4) (not (refused (getD l (56 + a .p) 0))) (isDemand (tenths (getD l (104 + a .p) 0))) (leb (getD l (8 + a .p) 0) 9) (ltb (getD l (200 + a .p) 0) 64))))
+    (six (wellCounts (countsOf l (a .p))) (leb (getD l (152 + a .p) 0) 4) (not (refused (getD l (56 + a .p) 0))) (isDemand (tenths (getD l (104 + a .p) 0))) (leb (getD l (8 + a .p) 0) 9) (ltb (getD l (200 + a .p) 0) 256))))

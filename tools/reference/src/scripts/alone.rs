@@ -209,7 +209,7 @@ fn each_answer(maker: &mut Maker) {
     let r = &mut maker.r;
     let states = [State::PowerOn, State::PowerOn, State::Classifying, State::Disabled];
     for (place, state) in states.into_iter().enumerate() {
-        table.ports[place] = Port { demand: 40, latches: 63, ..calm_port(r, state) };
+        table.ports[place] = Port { demand: 40, latches: 255, ..calm_port(r, state) };
     }
     table.ports[0].class = 4;
     table.ports[1].class = 1;
@@ -286,7 +286,7 @@ fn one_place_too_many(maker: &mut Maker) {
 }
 
 /// A long line first, whose bytes would go on where a shorter one ends: with a
-/// state over 9, a latch over 5 or a reserved flag. The shorter line is none the
+/// state over 9 or a reserved flag. The shorter line is none the
 /// worse for it.
 fn left_over(maker: &mut Maker) {
     let state = maker.r.pick(&STATES);
@@ -298,7 +298,7 @@ fn left_over(maker: &mut Maker) {
     let image = written(&table);
     let mut long = image.clone();
     long.resize(IMAGE_BYTES + PORT_BYTES, 0);
-    let (at, byte) = maker.r.pick(&[(0, 10), (0, 255), (6, 64), (6, 255)]);
+    let (at, byte) = maker.r.pick(&[(0, 10), (0, 255)]);
     long[IMAGE_BYTES + at] = byte;
     image_line(maker, &long);
     image_line(maker, &image);

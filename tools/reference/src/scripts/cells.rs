@@ -132,7 +132,7 @@ fn limit_port(r: &mut Random, port: Port) -> Port {
         *counter = if r.chance(25) { 2_000 } else { *counter };
     }
     if r.chance(30) {
-        port.latches = r.pick(&[63, 32, 1, 0]);
+        port.latches = r.pick(&[255, 128, 64, 32, 1, 0]);
     }
     Port { class: if r.chance(30) { 4 } else { port.class }, ..port }
 }

@@ -37,7 +37,7 @@ pub fn near_port(r: &mut Random, state: port::State) -> Port {
     };
     let control = (r.below(4) << 4 | r.between(1, 2) << 2 | enable) as u16;
     let demand = if state.closed() || r.chance(40) { r.pick(&DEMANDS) } else { 0 };
-    let latches = if r.chance(50) { 0 } else { r.below(64) as u8 };
+    let latches = if r.chance(50) { 0 } else { r.below(256) as u8 };
     let class = r.below(5) as u8;
     let mut counters = LIMITS.map(|limit| near_counter(r, limit));
     // Leave some of the rules below limiting and overload in reach.
@@ -55,7 +55,7 @@ fn any_place(r: &mut Random) -> Port {
         control: r.next() as u16,
         class: r.next() as u8,
         demand: r.next() as u16,
-        latches: r.below(64) as u8,
+        latches: r.next() as u8,
         counters: [0; 7].map(|_: u16| r.next() as u16),
     }
 }

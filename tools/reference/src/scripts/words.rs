@@ -1,10 +1,11 @@
 //! Words of the management side and small demands, all of them one by one: there
 //! is no chance in it.
 
+use crate::alone::CLASS_EDGES;
 use crate::image::written;
 use crate::lines::hex_text;
-use crate::port::{control_reserved, Port, State, STATES};
-use crate::reading::SAMPLE_BYTES;
+use crate::port::{control_reserved, Port, State, POWER_ON, STATES};
+use crate::reading::{Sample, CLASS_DONE, SAMPLE_BYTES};
 use crate::table::{Table, PLACES};
 
 /// Words past the fields: with bit 6, 7, 8 or 15, and with all.
@@ -18,6 +19,7 @@ pub fn words() -> Vec<u8> {
     control_words(&mut lines);
     status_words(&mut lines);
     demands(&mut lines);
+    class_pairs(&mut lines);
     lines.iter().flat_map(|line| format!("{line}\n").into_bytes()).collect()
 }
 
@@ -52,21 +54,55 @@ fn control_words(lines: &mut Vec<String>) {
     }
 }
 
-/// Each status word: each set of latches with each class and each condition, the
-/// states of a condition in turn.
+/// Each set of latches, with a quarter of the classes and conditions that a word
+/// can have: each of these with each latch set and clear. The states of a condition
+/// come in turn.
 fn status_words(lines: &mut Vec<String>) {
     let mut ports = Vec::new();
     for condition in 0..5 {
         let states: Vec<State> =
             STATES.into_iter().filter(|state| state.condition() == condition).collect();
-        for (class, latches) in (0..5).flat_map(|class| (0..64).map(move |set| (class, set))) {
-            let state = states[ports.len() % states.len()];
-            ports.push(Port { state, class, latches, ..Port::COLD });
+        for (class, latches) in (0..5u8).flat_map(|class| (0..=255).map(move |set| (class, set))) {
+            let turn = u32::from(5 * class) + u32::from(condition) + digits(latches);
+            if turn % 4 == 0 {
+                let state = states[ports.len() % states.len()];
+                ports.push(Port { state, class, latches, ..Port::COLD });
+            }
         }
     }
     for chunk in ports.chunks(PLACES) {
         lines.push(image_line(chunk));
         lines.extend((0..chunk.len()).map(|place| format!("status {place}")));
+    }
+}
+
+/// The sum of a byte's four digits of two bits.
+fn digits(byte: u8) -> u32 {
+    (0..4).map(|k| u32::from(byte >> (2 * k) & 3)).sum()
+}
+
+/// The first and second class currents about the limits of a failure, each with each:
+/// read alone; in the last tick that takes a class, with the latches that it left; and
+/// in the tick that is at 400, which takes none.
+fn class_pairs(lines: &mut Vec<String>) {
+    let pairs: Vec<[u16; 2]> =
+        CLASS_EDGES.iter().flat_map(|c1| CLASS_EDGES.map(|c2| [*c1, c2])).collect();
+    lines.extend(pairs.iter().map(|[c1, c2]| format!("class {c1} {c2}")));
+    let sample = |pair: &[u16; 2]| Sample {
+        voltages: [0; 2],
+        currents: [0; 2],
+        class_currents: *pair,
+        flags: CLASS_DONE,
+    };
+    let block: Vec<u8> = pairs.iter().flat_map(|pair| sample(pair).bytes()).collect();
+    for ticks in [398, 399] {
+        let mut port = Port { state: State::Classifying, control: 0x0005, ..Port::COLD };
+        port.counters[POWER_ON] = ticks;
+        lines.push(image_line(&vec![port; pairs.len()]));
+        lines.push(format!("tick 60000 {}", hex_text(&block)));
+        lines.push("dump".to_string());
+        lines.extend((0..pairs.len()).map(|place| format!("status {place}")));
+        lines.push("dump".to_string());
     }
 }
 
