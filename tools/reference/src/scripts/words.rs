@@ -2,8 +2,9 @@
 //! is no chance in it.
 
 use crate::alone::CLASS_EDGES;
+use crate::cells::{at, CELLS, CONTROL, COUNT, LATCHES};
 use crate::image::written;
-use crate::lines::hex_text;
+use crate::lines::{bytes_of, hex_text};
 use crate::port::{control_reserved, Port, State, POWER_ON, STATES};
 use crate::reading::{Sample, CLASS_DONE, SAMPLE_BYTES};
 use crate::table::{Table, PLACES};
@@ -20,6 +21,7 @@ pub fn words() -> Vec<u8> {
     status_words(&mut lines);
     demands(&mut lines);
     class_pairs(&mut lines);
+    latch_cells(&mut lines);
     lines.iter().flat_map(|line| format!("{line}\n").into_bytes()).collect()
 }
 
@@ -103,6 +105,19 @@ fn class_pairs(lines: &mut Vec<String>) {
         lines.push("dump".to_string());
         lines.extend((0..pairs.len()).map(|place| format!("status {place}")));
         lines.push("dump".to_string());
+    }
+}
+
+/// All eight latches and one bit more, in the only port's cell; and that in a cell
+/// past the count, which no call looks at and no image holds.
+fn latch_cells(lines: &mut Vec<String>) {
+    for (place, latches) in [(0, 255), (0, 256), (1, 256)] {
+        let mut cells = vec![0; CELLS];
+        cells[COUNT] = 1;
+        cells[at(CONTROL, 0)..at(CONTROL, PLACES)].fill(4);
+        cells[at(LATCHES, place)] = latches;
+        lines.push(format!("cells {}", hex_text(&bytes_of(&cells))));
+        lines.extend(["dump", "status 0"].map(String::from));
     }
 }
 
