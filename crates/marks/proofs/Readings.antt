@@ -11,12 +11,11 @@ use lib.Signed.{ltZ, leZ}
 use borrow.Author.Tests.{ltb-true, ltb-false, leb-true, leb-false, lt-ltb, le-ltb, le-leb, lt-leb}
 use Rattle.lists.proofs.Places.{side}
 use Rattle.lists.proofs.Tests.{choice-on, or-either, or-right, fails-left, fails-right, not-leb}
-use Rattle.class.specs.Class.{classOf, isFour, alone, classOfTwo}
+use Rattle.class.specs.Class.{classOf, isFour, classOfTwo}
+use Rattle.class.proofs.Failures.{low-class, high-class, four-is, reading}
 use Rattle.signature.specs.Signature.{outside, signatureOf}
 use Rattle.class.specs.declared.Class.{Class}
 use Rattle.class.specs.declared.Class.the-variants.{Is, Failure}
-use Rattle.class.specs.declared.ClassReading.{ClassReading}
-use Rattle.class.specs.declared.Events.the-variants.{Is as Shows, Disagree}
 use Rattle.signature.specs.declared.Signature.{Signature}
 use Rattle.signature.specs.declared.Signature.the-variants.{Valid, Invalid, Open}
 use Rattle.statements.specs.History.{isValid, isClass}
@@ -89,35 +88,6 @@ module _ (v1 v2 i1 i2 : ℕ) where
       pick false false z = refl
 
 -- ---- "to 31,000 class 3; to 45,000 class 4; above, failure"
-
-module _ (P : Class → Type 0) (i : ℕ) where
-  low-class : i ≤ 31000 → P (Is 0) → P (Is 1) → P (Is 2) → P (Is 3) → P (classOf i)
-  unfolding classOf
-  low-class h p0 p1 p2 p3 =
-      choice-on P (leb i 5000) _ _ (λ e. p0)
-      (λ e. choice-on P (leb i 13000) _ _ (λ e. p1)
-      (λ e. choice-on P (leb i 21000) _ _ (λ e. p2)
-      (λ e. choice-on P (leb i 31000) _ _ (λ e. p3) (λ e. absurd (omega (arith, leb-false i 31000 e))))))
-
-high-class : (i : ℕ) → 31000 < i → classOf i ≡ cond (leb i 45000) (Is 4) Failure
-unfolding classOf
-high-class i h = simp (lt-leb i 5000 (omega arith), lt-leb i 13000 (omega arith), lt-leb i 21000 (omega arith), lt-leb i 31000 h)
-
-four-is : (i : ℕ) → isFour (classOf i) ≡ (ltb 31000 i && leb i 45000)
-unfolding isFour
-four-is i =
-    ⊎-elim
-    (λ (h : 31000 < i). ap isFour (high-class i h) ∙ simp (lt-ltb 31000 i h) (bool (leb i 45000)))
-    (λ (h : i ≤ 31000). low-class (λ x. isFour x ≡ false) i h refl refl refl refl ∙ simp (le-ltb 31000 i h))
-    (side 31000 i)
-  where
-    bool : (x : Bool) → isFour (cond x (Is 4) Failure) ≡ x
-    bool true = refl
-    bool false = refl
-
--- the reading of two currents, of what the first shows and whether the second is class 4 too
-abbrev reading : Class → Bool → ClassReading
-reading x y = cond (isFour x) (record { shown = cond y (Shows 4) Disagree; used = 2 }) (record { shown = alone x; used = 1 })
 
 module _ (c1 c2 : ℕ) where
   pub class-low : c1 ≤ 31000 → true ≡ isClass (classOfTwo c1 c2 .shown)

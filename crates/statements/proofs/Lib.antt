@@ -1,5 +1,6 @@
 pub mod CallRows
 pub mod Cases
+pub mod ClassFailures
 pub mod StaysWellMade
 pub mod Limits
 pub mod MoveRows

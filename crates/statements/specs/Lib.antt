@@ -1,5 +1,6 @@
 pub mod CallRows
 pub mod Cases
+pub mod ClassFailures
 pub mod CounterRows
 pub mod History
 pub mod Limits
