@@ -10,7 +10,7 @@
  * all numbers that it is handed, and it leaves one possible answer and one possible content of everything lent:
  *   - A refusal writes no cell and no byte anywhere: not in the table, and in no place for an answer.
  *   - Cells that are no table are refused with 13, before everything else: another length, or in a port below the count a state
- *     over 9 or a latch bit over 5. So is a table that is ill-made (13 below).
+ *     over 9 or a latch bit over 7. So is a table that is ill-made (13 below).
  *   - Places at or past the count may hold anything, are never looked at and never change. Reserved cells are 0 after a cold start
  *     or a restore, and are never looked at or changed by any other call. (A cold start and a restore look at the number of cells
  *     alone, and write every cell; a save looks at all 48 places, and takes an ill-made table too.)
@@ -40,7 +40,7 @@ extern "C" {
 
 /* The version of this interface: its three numbers, and the text of them with points between. */
 #define IPAQSUNI_VERSION_MAJOR 0
-#define IPAQSUNI_VERSION_MINOR 2
+#define IPAQSUNI_VERSION_MINOR 3
 #define IPAQSUNI_VERSION_PATCH 0
 #define IPAQSUNI_TEXT_OF(major, minor, patch) #major "." #minor "." #patch
 #define IPAQSUNI_TEXT(major, minor, patch) IPAQSUNI_TEXT_OF(major, minor, patch)
@@ -130,13 +130,17 @@ _Static_assert(sizeof(struct ipaqsuni_table) == 2 * IPAQSUNI_CELLS, "a table is 
 #define IPAQSUNI_STATE_TEST_MODE 8
 #define IPAQSUNI_STATE_TEST_ERROR 9
 
-/* The bits of a port's latches. A status word has them at bits 7 to 12. */
+/* The bits of a port's latches. A status word has them at bits 7 to 14, each seven places higher. The last two are the failures of a
+   class reading, latched in the tick in which a port in CLASSIFYING takes one: the first current above 45,000 uA; a second that is not
+   class 4, one above 45,000 uA too, after a first that is. At the end of CLASSIFYING's time nothing is latched. */
 #define IPAQSUNI_LATCH_LOAD_ABSENT 1
 #define IPAQSUNI_LATCH_OVERLOAD 2
 #define IPAQSUNI_LATCH_SHORT_CIRCUIT 4
 #define IPAQSUNI_LATCH_INVALID 8
 #define IPAQSUNI_LATCH_VALID 16
 #define IPAQSUNI_LATCH_DENIED 32
+#define IPAQSUNI_LATCH_CLASS_OVER_CURRENT 64
+#define IPAQSUNI_LATCH_EVENTS_DISAGREE 128
 
 /* The places of a power TLV's fields. */
 #define IPAQSUNI_FORM 0 /* the TLV's length, 7 or 12; the last five are 0 for 7 */
@@ -159,7 +163,7 @@ uint32_t ipaqsuni_cold_start(uint16_t *cells, size_t cells_len, uint32_t ports);
 /* The port's control word becomes word, and nothing else changes. Refused: 13, 2, 3, 5. */
 uint32_t ipaqsuni_write_control(uint16_t *cells, size_t cells_len, uint32_t port, uint32_t word);
 
-/* The port's status word goes to *status, and its six latches are cleared, no more. Refused: 13, 2. */
+/* The port's status word goes to *status, and its eight latches are cleared, no more. Refused: 13, 2. */
 uint32_t ipaqsuni_read_status(uint16_t *cells, size_t cells_len, uint32_t port, uint32_t *status);
 
 /*
@@ -177,14 +181,14 @@ uint32_t ipaqsuni_tick(uint16_t *cells, size_t cells_len, const uint8_t *samples
 
 /*
  * Writes the table's image; the table stays as it is. Refused: 13 for cells that no image holds (another length, or at any of the
- * 48 places a state over 9, a latch bit over 5 or a class over 255), then 1 for a room of another length than IPAQSUNI_IMAGE. A
+ * 48 places a state over 9, a latch bit over 7 or a class over 255), then 1 for a room of another length than IPAQSUNI_IMAGE. A
  * table that is ill-made otherwise has an image.
  */
 uint32_t ipaqsuni_save(const uint16_t *cells, size_t cells_len, uint8_t *image, size_t image_len);
 
 /*
  * Leaves the table that the image is of. What the cells held before does not matter. Refused: 13 for bytes that are no image
- * (another length, a state over 9, a latch bit over 5, a supply over 16 bits) and for another number of cells than IPAQSUNI_CELLS.
+ * (another length, a state over 9, a supply over 16 bits) and for another number of cells than IPAQSUNI_CELLS.
  * An image may be of an ill-made table, which further calls then refuse.
  */
 uint32_t ipaqsuni_restore(uint16_t *cells, size_t cells_len, const uint8_t *image, size_t image_len);

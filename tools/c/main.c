@@ -1,7 +1,7 @@
 /*
  * A port from a cold start to power and shed again, another on alternative B whose requests are answered, a table saved and
- * restored, and a power TLV read and written, through the C interface. Every answer is compared with the one that document 01 gives;
- * a difference is an exit status of 1.
+ * restored, a power TLV read and written, and two class failures, through the C interface. Every answer is compared with the one that
+ * document 01 and the requests after it give; a difference is an exit status of 1.
  *
  *     ipaqsuni            the demonstration
  *     ipaqsuni lines      answers the console's lines (lines.c)
@@ -68,6 +68,38 @@ static void shed(void) {
     is("status again", ipaqsuni_read_status(IPAQSUNI_LENT(&table), 0, &status), IPAQSUNI_OK);
     is("  word without latches", status, 0x0013);
     is("latches", table.latches[0], 0);
+}
+
+/* Which failure of the class it was, by the latches: each is cleared by a status read. */
+static void class_failures(void) {
+    static const uint8_t still[2 * IPAQSUNI_SAMPLE] = {0};
+    uint8_t samples[2 * IPAQSUNI_SAMPLE] = {0};
+    uint32_t status = 77;
+
+    is("cold start of 2 ports", ipaqsuni_cold_start(IPAQSUNI_LENT(&table), 2), IPAQSUNI_OK);
+    is("control of port 0", ipaqsuni_write_control(IPAQSUNI_LENT(&table), 0, 0x0005), IPAQSUNI_OK);
+    is("control of port 1", ipaqsuni_write_control(IPAQSUNI_LENT(&table), 1, 0x0005), IPAQSUNI_OK);
+    tick("both go to IDLE", 600, still, sizeof still, 0, 0, 0);
+    tick("both go to DETECTING", 600, still, sizeof still, 0, 0, 0);
+    memcpy(samples, detected, IPAQSUNI_SAMPLE);
+    memcpy(samples + IPAQSUNI_SAMPLE, detected, IPAQSUNI_SAMPLE);
+    tick("both go to CLASSIFYING", 600, samples, sizeof samples, 0, 0, 0);
+    /* Port 0: C1 45,001 uA, C2 45,000 uA. Port 1: C1 45,000 uA, C2 45,001 uA. Class done. */
+    memset(samples, 0, sizeof samples);
+    samples[8] = samples[10] = samples[22] = samples[24] = 0xaf;
+    samples[9] = samples[25] = 0xc9;
+    samples[11] = samples[23] = 0xc8;
+    samples[13] = samples[27] = 2;
+    tick("a class failure goes to IDLE", 600, samples, sizeof samples, 0, 0, 0);
+    is("latches of port 0", table.latches[0], IPAQSUNI_LATCH_CLASS_OVER_CURRENT | IPAQSUNI_LATCH_VALID);
+    is("latches of port 1", table.latches[1], IPAQSUNI_LATCH_EVENTS_DISAGREE | IPAQSUNI_LATCH_VALID);
+    /* Latch 13 class over current or 14 events disagree, 11 valid signature, condition 1, bit 0. */
+    is("status of port 0", ipaqsuni_read_status(IPAQSUNI_LENT(&table), 0, &status), IPAQSUNI_OK);
+    is("  word", status, 0x2803);
+    is("status of port 1", ipaqsuni_read_status(IPAQSUNI_LENT(&table), 1, &status), IPAQSUNI_OK);
+    is("  word", status, 0x4803);
+    is("latches of port 0", table.latches[0], 0);
+    is("latches of port 1", table.latches[1], 0);
 }
 
 /* Each refusal leaves the table and the places for answers as they were. */
@@ -244,5 +276,6 @@ int main(int argc, char **argv) {
     images();
     frames();
     values();
+    class_failures();
     return differences;
 }

@@ -62,7 +62,7 @@ writeControl t p w = ladder (controlRefusals t p w) (λ k. refuse k t) (done (wi
 unfoldable pub unlatched : Port → Port
 unlatched p = withLatches noLatches p
 
--- "Reading the status returns the word and clears that port's six latches, no more."
+-- "Reading the status returns the word and clears that port's six latches, no more."; request [7]: "both clear on a status read with the other six"
 unfoldable pub statusAt : ℕ → Table → StatusRead
 statusAt p t =
     tells (statusWord (portAt t p .latches) (portAt t p .class) (condition (portAt t p .state))) (withPort p (unlatched (portAt t p)) t)

@@ -14,7 +14,7 @@ startOn l n = coldOn l (coldStart n)
 unfoldable pub controlOn : List ℕ → ℕ → ℕ → Replied
 controlOn l p w = toldOn l (λ t. writeControl t p w)
 
--- "Reading the status returns the word and clears that port's six latches, no more."
+-- "Reading the status returns the word and clears that port's six latches, no more."; request [7]: "both clear on a status read with the other six"
 unfoldable pub statusOn : List ℕ → ℕ → StatusRead
 statusOn l p = readOn l (λ t. readStatus t p)
 

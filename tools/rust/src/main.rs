@@ -1,6 +1,6 @@
 //! A port from a cold start to power and shed again, another on alternative B whose requests are answered, a table saved and
-//! restored, and a power TLV read and written, through the C interface. Every answer is compared with the one that document 01
-//! gives; a difference is an exit status of 1.
+//! restored, a power TLV read and written, and two class failures, through the C interface. Every answer is compared with the
+//! one that document 01 and the requests after it give; a difference is an exit status of 1.
 //!
 //!     interface            the demonstration
 //!     interface lines      answers the console's lines
@@ -90,6 +90,35 @@ fn shed(shown: &mut Shown, table: &mut [u16]) {
         shown.is("  word without latches", word.into(), 0x0013);
     }
     shown.is("latches", table[header::CELL_LATCHES].into(), 0);
+}
+
+/// Which failure of the class it was, by the latches: each is cleared by a status read.
+fn class_failures(shown: &mut Shown, table: &mut [u16]) {
+    let still = [0; 2 * SAMPLE];
+    shown.answers("cold start of 2 ports", core::cold_start(table, 2), header::OK);
+    shown.answers("control of port 0", core::write_control(table, 0, 0x0005), header::OK);
+    shown.answers("control of port 1", core::write_control(table, 1, 0x0005), header::OK);
+    shown.tick("both go to IDLE", table, &still, 600, on_a(0));
+    shown.tick("both go to DETECTING", table, &still, 600, on_a(0));
+    shown.tick("both go to CLASSIFYING", table, &[DETECTED, DETECTED].concat(), 600, on_a(0));
+    // 45,001 uA and then 45,000 uA; 45,000 uA and then 45,001 uA. Class done.
+    let over = [0, 0, 0, 0, 0, 0, 0, 0, 0xaf, 0xc9, 0xaf, 0xc8, 0, 2];
+    let apart = [0, 0, 0, 0, 0, 0, 0, 0, 0xaf, 0xc8, 0xaf, 0xc9, 0, 2];
+    shown.tick("a class failure goes to IDLE", table, &[over, apart].concat(), 600, on_a(0));
+    let (first, second) = (header::CELL_LATCHES, header::CELL_LATCHES + 1);
+    let over_current = header::LATCH_CLASS_OVER_CURRENT | header::LATCH_VALID;
+    let disagree = header::LATCH_EVENTS_DISAGREE | header::LATCH_VALID;
+    shown.is("latches of port 0", table[first].into(), over_current.into());
+    shown.is("latches of port 1", table[second].into(), disagree.into());
+    // Latch 13 class over current or 14 events disagree, 11 valid signature, condition 1, bit 0.
+    if let Some(word) = shown.answers("status of port 0", core::read_status(table, 0), header::OK) {
+        shown.is("  word", word.into(), 0x2803);
+    }
+    if let Some(word) = shown.answers("status of port 1", core::read_status(table, 1), header::OK) {
+        shown.is("  word", word.into(), 0x4803);
+    }
+    shown.is("latches of port 0", table[first].into(), 0);
+    shown.is("latches of port 1", table[second].into(), 0);
 }
 
 /// Each refusal leaves the table and the places for answers as they were; `core` has seen the latter at every call.
@@ -320,5 +349,6 @@ fn main() -> ExitCode {
     images(&mut shown, &mut table);
     frames(&mut shown);
     values(&mut shown);
+    class_failures(&mut shown, &mut table);
     ExitCode::from(u8::from(shown.differs))
 }
