@@ -108,7 +108,7 @@ fn port(r: &mut Random, ill: bool) -> Vec<u8> {
         }
     }
     let mut bytes = vec![r.below(10) as u8, (control >> 8) as u8, control as u8, class as u8];
-    bytes.extend([(demand >> 8) as u8, demand as u8, r.below(64) as u8]);
+    bytes.extend([(demand >> 8) as u8, demand as u8, r.next() as u8]);
     bytes.extend(words.iter().flat_map(|word| word.to_be_bytes()));
     bytes
 }

@@ -44,7 +44,8 @@ fn ill(r: &mut Random, cells: &[u16]) -> Vec<u16> {
     let field = r.pick(&[STATE, STATE, LATCHES, LATCHES, WORD, DEMAND, CLASS, DETECTION, NO_LOAD]);
     let most = match field {
         STATE => 9,
-        LATCHES | WORD => 63,
+        WORD => 63,
+        LATCHES => 255,
         DEMAND => 300,
         CLASS => 4,
         _ => 2_000,
@@ -79,7 +80,8 @@ fn saved(cells: &[u16], room: &mut [u8]) -> Result<u32, u8> {
     Ok(0)
 }
 
-/// An image, or bytes that are none: another length, a state over 9, a latch bit over 5, a supply over 16 bits.
+/// An image, or bytes that are none: another length, a state over 9, a supply over 16 bits; or with a latch bit that is
+/// none of document 01's six.
 fn perhaps_image(r: &mut Random, image: &[u8]) -> Vec<u8> {
     let mut bytes = image.to_vec();
     let port = 6 + 21 * r.below(PLACES as u64) as usize;

@@ -58,7 +58,7 @@ pub fn ill_made(fields: &Fields, count: usize) -> bool {
             top = top.max(counter[p]);
         }
         let over = mask(top > 2_000) | mask(fields[CLASS][p] > 4) | mask(fields[STATE][p] > 9);
-        let bits = (fields[LATCHES][p] & !63) | refused(fields[CONTROL][p]);
+        let bits = (fields[LATCHES][p] & !255) | refused(fields[CONTROL][p]);
         faults |= (over | bits | !known(fields[DEMAND][p])) & mask(NUMBERS[p] < count as u16);
     }
     faults != 0

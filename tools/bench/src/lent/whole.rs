@@ -110,7 +110,13 @@ fn classifying(fields: &mut Fields, p: usize, sample: &Sample, flags: u16) -> Cl
     if flags & CLASS_DONE == 0 {
         return Claim::Nothing;
     }
-    let Some(class) = class(sample) else { return enters(fields, p, IDLE) };
+    let class = match class(sample) {
+        Ok(class) => class,
+        Err(failure) => {
+            latch(fields, p, failure);
+            return enters(fields, p, IDLE);
+        }
+    };
     fields[CLASS][p] = u16::from(class);
     fields[DEMAND][p] = BUDGETS[usize::from(class)];
     Claim::Asks

@@ -7,7 +7,6 @@ use crate::lent::cells::{
 
 fn port(cells: &[u16], p: usize) -> Option<Port> {
     let of = |field: usize| cells[cell(field, p)];
-    let latches = u8::try_from(of(LATCHES)).ok().filter(|&latches| latches <= 63)?;
     let mut lanes = [of(CLASSES); 8];
     for (k, lane) in lanes[..CLASS].iter_mut().enumerate() {
         *lane = of(DETECTION + k);
@@ -16,7 +15,7 @@ fn port(cells: &[u16], p: usize) -> Option<Port> {
         state: *STATES.get(usize::from(of(STATE)))?,
         control: of(CONTROL),
         demand: of(DEMAND),
-        latches,
+        latches: u8::try_from(of(LATCHES)).ok()?,
         lanes,
     })
 }

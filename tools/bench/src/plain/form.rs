@@ -29,6 +29,8 @@ pub const STATES: [State; 10] = [
 ];
 
 /// Latches, placed as in the image.
+pub const DISAGREE: u8 = 1 << 7;
+pub const OVER_CURRENT: u8 = 1 << 6;
 pub const DENIED: u8 = 1 << 5;
 pub const VALID: u8 = 1 << 4;
 pub const INVALID: u8 = 1 << 3;

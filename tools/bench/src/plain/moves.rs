@@ -230,7 +230,13 @@ fn classifying(port: &mut Port, sample: &Sample, flags: u16) -> Claim {
     if flags & CLASS_DONE == 0 {
         return Claim::Nothing;
     }
-    let Some(class) = class(sample) else { return to_idle(port) };
+    let class = match class(sample) {
+        Ok(class) => class,
+        Err(latch) => {
+            port.latches |= latch;
+            return to_idle(port);
+        }
+    };
     port.lanes[CLASS] = u16::from(class);
     port.demand = BUDGETS[usize::from(class)];
     Claim::Asks

@@ -1,6 +1,6 @@
 //! What a sample reads: its signature and its class.
 
-use super::form::{word, SAMPLE_BYTES};
+use super::form::{word, DISAGREE, OVER_CURRENT, SAMPLE_BYTES};
 
 pub type Sample = [u8; SAMPLE_BYTES];
 
@@ -41,11 +41,11 @@ fn class_of(current: u16) -> u8 {
     }
 }
 
-/// None is a failure: "If C1 reads class 4, C2 must too".
-pub fn class(sample: &Sample) -> Option<u8> {
-    let class = class_of(word(sample, 8));
-    if class == 5 || (class == 4 && class_of(word(sample, 10)) != 4) {
-        return None;
+/// A failure is the latch that it sets: "If C1 reads class 4, C2 must too".
+pub fn class(sample: &Sample) -> Result<u8, u8> {
+    match class_of(word(sample, 8)) {
+        5 => Err(OVER_CURRENT),
+        4 if class_of(word(sample, 10)) != 4 => Err(DISAGREE),
+        class => Ok(class),
     }
-    Some(class)
 }
