@@ -12,7 +12,7 @@ use borrow.Author.Tests.{ltb-true, ltb-false, leb-true, leb-false, lt-ltb, le-lt
 use Rattle.lists.proofs.Places.{side}
 use Rattle.lists.proofs.Tests.{choice-on, or-either, or-right, fails-left, fails-right, not-leb}
 use Rattle.class.specs.Class.{classOf, isFour, classOfTwo}
-use Rattle.class.proofs.Failures.{low-class, high-class, four-is, reading}
+use Rattle.statements.proofs.Currents.{low-class, high-class, four-is, reading}
 use Rattle.signature.specs.Signature.{outside, signatureOf}
 use Rattle.class.specs.declared.Class.{Class}
 use Rattle.class.specs.declared.Class.the-variants.{Is, Failure}

@@ -11,7 +11,7 @@ use Rattle.lists.proofs.Places.{side}
 use Rattle.lists.proofs.Tests.{not-leb}
 use Rattle.power.specs.declared.Power.{Power}
 use Rattle.class.specs.Class.{classOfTwo}
-use Rattle.class.proofs.Failures.{isOver, isApart, over-is, apart-is, used-is}
+use Rattle.statements.proofs.Currents.{isOver, isApart, over-is, apart-is, used-is}
 use Rattle.class.specs.declared.Events.{Events}
 use Rattle.class.specs.declared.Events.the-variants.{Is, OverCurrent, Disagree}
 use Rattle.sample.specs.Sample.{flagsOf}

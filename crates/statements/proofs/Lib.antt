@@ -1,6 +1,7 @@
 pub mod CallRows
 pub mod Cases
 pub mod ClassFailures
+pub mod Currents
 pub mod StaysWellMade
 pub mod Limits
 pub mod MoveRows
