@@ -2,6 +2,7 @@
 use Prim.Native.Nat.{ℕ}
 use mathlib.Core.Bool.{true, false}
 use Rattle.power.specs.declared.Power.{Power}
+use Rattle.status.specs.Kinds.{only, Disagree, OverCurrent, Denied, Valid, Invalid, Short, Overload, Absent}
 use Rattle.status.specs.Status.{noLatches, join}
 use Rattle.status.specs.declared.Latches.{Latches}
 use Rattle.port.specs.declared.form.State.{State}
@@ -61,25 +62,25 @@ asking p = record { port = p; latched = noLatches; asks = true }
 
 -- each latch by itself
 abbrev pub latchDisagree : Latches
-latchDisagree = record { disagree = true; «over_current» = false; denied = false; valid = false; invalid = false; short = false; overload = false; absent = false }
+latchDisagree = only Disagree
 
 abbrev pub latchOverCurrent : Latches
-latchOverCurrent = record { disagree = false; «over_current» = true; denied = false; valid = false; invalid = false; short = false; overload = false; absent = false }
+latchOverCurrent = only OverCurrent
 
 abbrev pub latchDenied : Latches
-latchDenied = record { disagree = false; «over_current» = false; denied = true; valid = false; invalid = false; short = false; overload = false; absent = false }
+latchDenied = only Denied
 
 abbrev pub latchValid : Latches
-latchValid = record { disagree = false; «over_current» = false; denied = false; valid = true; invalid = false; short = false; overload = false; absent = false }
+latchValid = only Valid
 
 abbrev pub latchInvalid : Latches
-latchInvalid = record { disagree = false; «over_current» = false; denied = false; valid = false; invalid = true; short = false; overload = false; absent = false }
+latchInvalid = only Invalid
 
 abbrev pub latchShort : Latches
-latchShort = record { disagree = false; «over_current» = false; denied = false; valid = false; invalid = false; short = true; overload = false; absent = false }
+latchShort = only Short
 
 abbrev pub latchOverload : Latches
-latchOverload = record { disagree = false; «over_current» = false; denied = false; valid = false; invalid = false; short = false; overload = true; absent = false }
+latchOverload = only Overload
 
 abbrev pub latchAbsent : Latches
-latchAbsent = record { disagree = false; «over_current» = false; denied = false; valid = false; invalid = false; short = false; overload = false; absent = true }
+latchAbsent = only Absent

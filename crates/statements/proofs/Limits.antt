@@ -10,8 +10,9 @@ use Rattle.sample.specs.Sample.{sampleAt, sampleOf, flagsOf, reservedFlags}
 use Rattle.signature.specs.Signature.{outside, byDifferences, signatureOf}
 use Rattle.control.specs.Control.{enableOf, pairOf, priorityOf, controlOf, refused}
 use Rattle.status.specs.Status.{statusWord}
+use Rattle.statements.specs.ClassRows.{classes}
 use Rattle.statements.specs.Rows.{Holds, meaning}
-use Rattle.statements.specs.ReadingRows.{signatures, classes, powers, samples}
+use Rattle.statements.specs.ReadingRows.{signatures, powers, samples}
 use Rattle.statements.specs.WordRows.{controls, statuses}
 use Rattle.statements.specs.Limits.{limits}
 

@@ -1,6 +1,7 @@
 pub mod CallRows
 pub mod Cases
 pub mod ClassFailures
+pub mod ClassRows
 pub mod CounterRows
 pub mod History
 pub mod Limits

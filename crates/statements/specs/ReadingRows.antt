@@ -1,17 +1,12 @@
--- Rows at the limits of the readings: signatures, classes, powers and samples. Proved in proofs/Limits.
+-- Rows at the limits of the readings: signatures, powers and samples. Proved in proofs/Limits.
 -- Assumes nothing.
 use mathlib.Core.Bool.{true, false}
 use mathlib.Core.List.{List, [], _∷_}
 use Rattle.power.specs.Power.{tenths}
 use Rattle.power.specs.declared.Supply.the-variants.{Is as Supply-Is, TooLarge}
-use Rattle.class.specs.declared.Class.the-variants.{Is, Failure}
-use Rattle.class.specs.declared.ClassReading.{ClassReading}
-use Rattle.class.specs.declared.Events.{Events}
-use Rattle.class.specs.declared.Events.the-variants.{Is as Shows, OverCurrent, Disagree}
-use Prim.Native.Nat.{ℕ}
 use Rattle.sample.specs.declared.Sampled.the-variants.{Is as Whole, Cut}
 use Rattle.signature.specs.declared.Signature.the-variants.{Valid, Invalid, Open}
-use Rattle.statements.specs.Rows.{Row, signature, voltage, class, two-currents, budget-of, demand, sample, flags-of, flags-reserved, supply, forced-claim, shows, is-class, reads, power, sampled, flags, figure, test}
+use Rattle.statements.specs.Rows.{Row, signature, voltage, budget-of, demand, sample, flags-of, flags-reserved, supply, forced-claim, shows, power, sampled, flags, figure, test}
 
 -- each voltage limit of the signature, the least dV, and currents that stand still or fall
 unfoldable pub signatures : List Row
@@ -39,50 +34,6 @@ signatures =
     ∷ (signature 4000 8000 0 160, shows Valid)
     ∷ (signature 0 0 0 0, shows Invalid)
     ∷ (signature 65535 65535 65535 65535, shows Invalid)
-    ∷ []
-
--- what two currents show, and how many of them were used
-abbrev shown : Events → ℕ → ClassReading
-shown e n = record { shown = e; used = n }
-
--- each limit of the class and one past it; what a second current does, and which failure it is: request [7], "a second current above 45,000
--- after a class 4 counts as disagreeing"
-unfoldable pub classes : List Row
-classes =
-    (class 0, is-class (Is 0))
-    ∷ (class 5000, is-class (Is 0))
-    ∷ (class 5001, is-class (Is 1))
-    ∷ (class 13000, is-class (Is 1))
-    ∷ (class 13001, is-class (Is 2))
-    ∷ (class 21000, is-class (Is 2))
-    ∷ (class 21001, is-class (Is 3))
-    ∷ (class 31000, is-class (Is 3))
-    ∷ (class 31001, is-class (Is 4))
-    ∷ (class 45000, is-class (Is 4))
-    ∷ (class 45001, is-class Failure)
-    ∷ (class 65535, is-class Failure)
-    ∷ (two-currents 31001 31001, reads (shown (Shows 4) 2))
-    ∷ (two-currents 45000 45000, reads (shown (Shows 4) 2))
-    ∷ (two-currents 45000 31001, reads (shown (Shows 4) 2))
-    ∷ (two-currents 45000 45001, reads (shown Disagree 2))
-    ∷ (two-currents 31001 45001, reads (shown Disagree 2))
-    ∷ (two-currents 45000 65535, reads (shown Disagree 2))
-    ∷ (two-currents 31001 31000, reads (shown Disagree 2))
-    ∷ (two-currents 45000 0, reads (shown Disagree 2))
-    ∷ (two-currents 31001 0, reads (shown Disagree 2))
-    ∷ (two-currents 45001 45000, reads (shown OverCurrent 1))
-    ∷ (two-currents 45001 45001, reads (shown OverCurrent 1))
-    ∷ (two-currents 45001 31001, reads (shown OverCurrent 1))
-    ∷ (two-currents 45001 0, reads (shown OverCurrent 1))
-    ∷ (two-currents 65535 65535, reads (shown OverCurrent 1))
-    ∷ (two-currents 31000 45000, reads (shown (Shows 3) 1))
-    ∷ (two-currents 31000 45001, reads (shown (Shows 3) 1))
-    ∷ (two-currents 21000 31001, reads (shown (Shows 2) 1))
-    ∷ (two-currents 21000 45001, reads (shown (Shows 2) 1))
-    ∷ (two-currents 13000 31001, reads (shown (Shows 1) 1))
-    ∷ (two-currents 13000 45000, reads (shown (Shows 1) 1))
-    ∷ (two-currents 5000 45001, reads (shown (Shows 0) 1))
-    ∷ (two-currents 0 65535, reads (shown (Shows 0) 1))
     ∷ []
 
 -- the five budgets, the five demands and their neighbours, the forced claim and the highest supply

@@ -1,5 +1,7 @@
 -- The kinds of latch, and the bit of the status word that each has.
 use Prim.Native.Nat.{ℕ, _+_}
+use mathlib.Core.Bool.{Bool}
+use lib.Dec.{eqb}
 use Rattle.lists.specs.Bits.{place}
 use Rattle.status.specs.declared.Latches.{Latches}
 
@@ -30,3 +32,20 @@ abbrev pub placed : (Kind → ℕ) → Latches → ℕ
 placed at l =
     place (at Disagree) (l .disagree) + place (at OverCurrent) (l .«over_current») + place (at Denied) (l .denied) + place (at Valid) (l .valid)
     + place (at Invalid) (l .invalid) + place (at Short) (l .short) + place (at Overload) (l .overload) + place (at Absent) (l .absent)
+
+abbrev is : Kind → Kind → Bool
+is a b = eqb (bitOf a) (bitOf b)
+
+-- the latch of a kind, and no other
+abbrev pub only : Kind → Latches
+only kind =
+    record {
+      disagree = is kind Disagree;
+      «over_current» = is kind OverCurrent;
+      denied = is kind Denied;
+      valid = is kind Valid;
+      invalid = is kind Invalid;
+      short = is kind Short;
+      overload = is kind Overload;
+      absent = is kind Absent;
+    }

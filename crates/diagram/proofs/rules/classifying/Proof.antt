@@ -1,7 +1,9 @@
 -- `classifying` is `classifying`: the test of the counter, after it has advanced, says which case holds.
 -- Assumes nothing.
+use native.Mathlib.Omega.{arith}
 use borrow.Author.Needs.{needs}
 use borrow.Author.Tests.{le-leb, lt-leb}
+use Rattle.diagram.specs.Limits.{classifyingTicks}
 use Rattle.diagram.specs.Rules.{classifying}
 use Rattle.diagram.proofs.rules.classifying.Statement.{statement}
 use Rattle.diagram.proofs.rules.classifying.Tie as tie
@@ -14,6 +16,6 @@ classifying-spec =
     (λ c κs. search needs)
     (λ c κs. search needs)
     (λ c κs. search needs)
-    (λ c. simp (c .quietly .ensures, c .before .enter .ensures, ← c .before .before .before .before .before .up .ensures, le-leb _ _ (c .before .before .if1 .taken)))
+    (λ c. simp (c .quietly .ensures, c .before .enter .ensures, ← c .before .before .before .before .before .up .ensures, le-leb classifyingTicks (c .before .before .before .before .before .up .result) (omega (arith, c .before .before .if1 .taken))))
     (λ c κs. search needs)
     (λ c. simp (c .classed .ensures, ← c .before .before .before .before .up .ensures, lt-leb _ _ (c .before .if1 .left))))
