@@ -13,7 +13,6 @@ ghost use lib.Dec.{leb};
 ghost use lib.ListN.{length, getD};
 ghost use Rattle.sizes.specs.Sizes.{mostPorts};
 ghost use Rattle.settling.specs.Claim.{settlingChanges, settledAs};
-ghost use Rattle.share.specs.Share.{noClaim};
 ghost use Rattle.cells.specs.Cells.{portOf, written, cellsLong};
 ghost use Rattle.cells.specs.Holds.{Holds};
 ghost use Rattle.cells.specs.Writes.{withPortCells};
@@ -52,11 +51,17 @@ fn settle_all(cells: &mut [u16], n: usize, ranks: [u8; PORTS], kept: [bool; PORT
     }
 }
 
-// A rank that an asker may have, and what is no claim for all others.
-fn asker_rank(asks: u16) -> u8
-    ensures { λ r. ⌜ r ≡ cond (isSet asks) 3 noClaim ⌝ }
+// A port that asked is as one of an asker's rank whose claim is kept. Not by `settle`: what is called from one place alone is compiled
+// into it, and a port is not handed on by memory.
+fn admit_port(cells: &mut [u16], p: usize, asks: u16)
+    requires { ⌜ (length (now cells) ≡ cellsLong) × (p < mostPorts) × (getD (now cells) (152 + p) 0 < 256) ⌝ }
+    ensures { λ _. ⌜ now (cells .exit) ≡ cond (isSet asks) (withPortCells p (settledAs 3 true (portOf (now (cells .entry)) p) .port) (now (cells .entry))) (now (cells .entry)) ⌝ }
 {
-    if asks != 0 { 3 } else { share::NO_CLAIM }
+    if asks != 0 {
+        let settled = settled_port(3, true, port_at(cells, p));
+        let port = settled.port;
+        put_port(cells, p, port);
+    }
 }
 
 // Every claim is kept: who asked enters its state.
@@ -66,7 +71,7 @@ fn admit(cells: &mut [u16], n: usize, lane: &[u16])
 {
     let mut p = 0;
     while p < n {
-        settle(cells, p, asker_rank(lane[p]), true);
+        admit_port(cells, p, lane[p]);
         p += 1;
     }
 }
