@@ -38,7 +38,7 @@ pub either-is : (a b : Bool) → (not a || not b) ≡ not (a && b)
 either-is true b = refl
 either-is false b = refl
 
--- there are ten states and six latches
+-- there are ten states and eight latches
 pub holds-not : (l : List ℕ) (p : ℕ) → not (portHolds l p) ≡ (ltb 9 (getD l (8 + p) 0) || leb 256 (getD l (200 + p) 0))
 unfolding portHolds
 holds-not l p = sym (either-is (leb (getD l (8 + p) 0) 9) (ltb (getD l (200 + p) 0) 256)) ∙ ap₂ _||_ (not-leb (getD l (8 + p) 0) 9) (not-ltb (getD l (200 + p) 0) 256)
