@@ -54,7 +54,7 @@ enableNo (suc (suc zero)) = Forced
 enableNo (suc (suc (suc n))) = Reserved
 
 -- a counter that has not come to its limit
-early : (m n : ℕ) → m < mostCount → not (leb (m + 1) (up n)) ≡ ltb n m
+pub early : (m n : ℕ) → m < mostCount → not (leb (m + 1) (up n)) ≡ ltb n m
 unfolding up
 early m n h = go (ltb n m) refl
   where

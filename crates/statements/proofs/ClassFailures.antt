@@ -1,14 +1,11 @@
 -- What is proved of specs/ClassFailures.
 -- Assumes nothing.
-use Prim.Native.Nat.{ℕ, _≤_, _<_}
+use Prim.Native.Nat.{_-_}
 use mathlib.Core.Path.{_≡_, refl, sym, _∙_, ap, ap₂}
 use mathlib.Core.Bool.{Bool, true, false, cond, not, _&&_, false≢true}
-use mathlib.Core.Logic.{⊎-elim}
 use native.Mathlib.Omega.{arith}
-use lib.Dec.{eqb, ltb}
-use borrow.Author.Tests.{eqb-true, lt-ltb, le-ltb}
-use Rattle.lists.proofs.Places.{side}
-use Rattle.lists.proofs.Tests.{not-leb}
+use lib.Dec.{eqb}
+use borrow.Author.Tests.{eqb-true}
 use Rattle.power.specs.declared.Power.{Power}
 use Rattle.class.specs.Class.{classOfTwo}
 use Rattle.statements.proofs.Currents.{isOver, isApart, over-is, apart-is, used-is}
@@ -28,7 +25,8 @@ use Rattle.port.specs.declared.form.Moved.{Moved}
 use Rattle.port.specs.declared.form.Port.{Port}
 use Rattle.port.specs.declared.form.State.{State}
 use Rattle.port.specs.declared.form.State.the-variants.{Classifying}
-use Rattle.diagram.specs.Limits.{classifyingEnds}
+use Rattle.diagram.specs.Limits.{classifyingTicks, classifyingEnds}
+use Rattle.quick.proofs.SweepLaws.{early}
 use Rattle.diagram.specs.Rules.{classed, classifying}
 use Rattle.diagram.specs.Step.{byState, step}
 use Rattle.outcomes.proofs.Outcomes.{step-outcome}
@@ -46,16 +44,6 @@ record OfFailure (latch : Latches → Bool) (failed : Events → Bool) : Type 0 
   overload : latch latchOverload ≡ false
   absent : latch latchAbsent ≡ false
   taken : (e : Events) (q : Port) → latch (classed (classingOf e) q .latched) ≡ failed e
-
--- "at 400": the counter advances before it is compared
-early-is : (n : ℕ) → not (classifyingEnds (up n)) ≡ ltb n 399
-unfolding up
-early-is n =
-    not-leb 400 (up n)
-    ∙ ⊎-elim
-    (λ (h : n < 399). lt-ltb (up n) 400 (omega arith) ∙ sym (lt-ltb n 399 h))
-    (λ (h : 399 ≤ n). le-ltb (up n) 400 (omega arith) ∙ sym (le-ltb n 399 h))
-    (side n 399)
 
 module _ (latch : Latches → Bool) (failed : Events → Bool) (of : OfFailure latch failed) (claim : Power) (p : Port) (s : Sample) where
   abbrev latched : Bool
@@ -112,7 +100,7 @@ module _ (latch : Latches → Bool) (failed : Events → Bool) (of : OfFailure l
       go : (t : Bool) → eqb (codeOf (p .state)) 4 ≡ t → latched ≡ (takesClass p s && failed shown)
       go true e =
           in-classifying (sym (state-back (p .state)) ∙ ap stateOf (eqb-true (codeOf (p .state)) 4 e))
-          ∙ simp (e, early-is (p .counts .«power_on»))
+          ∙ simp (e, early (classifyingTicks - 1) (p .counts .«power_on») (omega arith))
       go false e = elsewhere e ∙ simp e
 
 over-taken : (e : Events) (q : Port) → classed (classingOf e) q .latched .«over_current» ≡ isOver e
