@@ -1,4 +1,6 @@
 // What a tick reads off its sample block: the flags of every port, and what a port's sample tells its move.
+#![tactic(auto)]
+
 pub mod digest;
 
 ghost use Rattle.std.specs.Prelude.{◌≡◌, ◌+◌, ◌*◌, ◌/◌, ◌<◌, ◌≤◌, length};

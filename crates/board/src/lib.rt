@@ -1,4 +1,6 @@
 // The boards that stand on this core, and what differs between them. Whatever is not here knows no board.
+#![tactic(auto)]
+
 ghost use Rattle.std.specs.Prelude.{◌≡◌, ◌≤◌};
 ghost use Rattle.board.specs.ByMask.{said_by};
 ghost use Rattle.board.specs.Boards.{sample_bytes, class_shown, most_class, budget_of, forced_claim, cold_word, refused, level_of, over_level, over_class, demand_for, closed_number};

@@ -1,5 +1,7 @@
 // The calls of the management side, on the cells that a caller lends: cold start, control write and status read. Each changes the cells
 // where they stand, and a refusal none of them. The fourth, the request, is the crate `request`.
+#![tactic(auto)]
+
 ghost use Rattle.std.specs.Prelude.{◌≡◌, ◌||◌, length};
 ghost use Rattle.status.specs.Status.{status_word};
 ghost use Rattle.port.specs.States.{condition, in_disabled};

@@ -1,4 +1,6 @@
 // The codes of states and latches in a lent table. What the table's cells mean is in specs/Cells.antt.
+#![tactic(auto)]
+
 ghost use Rattle.std.specs.Prelude.{◌≡◌, ◌*◌, ◌<◌, ◌≤◌};
 ghost use Rattle.lists.specs.Bits.{one};
 ghost use Rattle.port.specs.States.{code_of};

@@ -1,4 +1,6 @@
 // What ports that have moved claim of the supply, by their cells and a lane that has a number other than 0 for each port that asks.
+#![tactic(auto)]
+
 ghost use Rattle.std.specs.Prelude.{◌≡◌, cond, ◌+◌, ◌*◌, ◌<◌, ◌≤◌, ◌^◌, length, get_or};
 ghost use Rattle.sizes.specs.Sizes.{most_ports};
 ghost use Rattle.cells.specs.Cells.{cells_long};

@@ -1,4 +1,6 @@
 // The class that one or two currents (µA) show, and what a port of a class may draw.
+#![tactic(auto)]
+
 ghost use Rattle.std.specs.Prelude.{◌≡◌};
 ghost use Rattle.class.specs.Class.{class_of, is_four, alone, class_of_two, budget_of};
 

@@ -1,4 +1,6 @@
 // Reads lines from standard input, hands each to the core, and writes one line for each. It never stops at a bad line.
+#![tactic(auto)]
+
 mod answers;
 mod commands;
 mod lines;

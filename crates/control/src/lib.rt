@@ -1,4 +1,6 @@
 // The control word: its three fields, the word of three fields, and which words a write refuses.
+#![tactic(auto)]
+
 ghost use Rattle.std.specs.Prelude.{◌≡◌};
 ghost use Rattle.control.specs.Control.{enable_of, pair_of, priority_of, refused};
 

@@ -1,6 +1,8 @@
 // Asks the demands of records from standard input. It writes one letter for each record: `h` where the demand is held, `n` where it is not
 // asked, `B` where it is broken; and a last line with how many there were of each. A record is a letter that says what is asked, how long
 // its body is (4 bytes, big-endian), and the body.
+#![tactic(auto)]
+
 mod bytes;
 mod calls_on;
 mod records;

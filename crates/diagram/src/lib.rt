@@ -1,4 +1,6 @@
 // The diagram: a port's move in one tick, over what the tick is told of it.
+#![tactic(auto)]
+
 pub mod limits;
 mod rules;
 

@@ -1,4 +1,6 @@
 // What a port's enable code asks for.
+#![tactic(auto)]
+
 ghost use Rattle.std.specs.Prelude.{◌≡◌};
 ghost use Rattle.enable.specs.Enable.{is_off, is_on, is_forced};
 

@@ -1,4 +1,6 @@
 // The fields of a power TLV, in both its forms.
+#![tactic(auto)]
+
 ghost use Rattle.std.specs.Prelude.{◌≡◌};
 ghost use Rattle.fields.specs.Fields.{too_high, bad_values};
 

@@ -1,5 +1,7 @@
 // The four-pair board of request [13]: the class that up to three currents (µA) show, what a port of a class may draw and request, and what
 // a request is granted with the loss of its cable.
+#![tactic(auto)]
+
 mod losses;
 
 ghost use Rattle.std.specs.Prelude.{◌≡◌};

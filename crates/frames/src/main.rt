@@ -1,5 +1,7 @@
 // Reads records, each a kind, a length of two bytes and so many bytes, and writes what the power TLV's search, reader and writer
 // answer, a line for each.
+#![tactic(auto)]
+
 use fields::{Added, Fields, Form};
 use reader::ReadAnswer;
 use search::Searched;

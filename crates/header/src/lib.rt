@@ -1,5 +1,7 @@
 // What stands at a place of the bytes: a number of two bytes, a TLV's header, and the four bytes that make a TLV a power TLV. A byte
 // past the end counts as 0, so that every place has an answer.
+#![tactic(auto)]
+
 ghost use Rattle.std.specs.Prelude.{◌≡◌, ◌+◌, ◌<◌, ◌^◌, length};
 ghost use Rattle.lists.specs.Bytes.{word_at};
 ghost use Rattle.header.specs.Header.{type_at, length_at, fixed_at, is_power};

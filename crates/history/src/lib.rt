@@ -1,4 +1,6 @@
 // A history of calls from a cold start, read off bytes: any bytes are a history, and the C functions that ship run it.
+#![tactic(auto)]
+
 mod bytes;
 mod shown;
 

@@ -1,6 +1,8 @@
 // Refusal 13 written out anew from document 01, for the programs that judge the core: nothing of it is borrowed from the core. The cells of
 // a table are a count, a supply, six that nobody uses, and then 48 of each field: states from 8 on, control words from 56, demands from
 // 104, classes from 152, latches from 200, and the seven counters from 248.
+#![tactic(auto)]
+
 ghost use Rattle.std.specs.Prelude.{◌≡◌, not, ◌<◌, ltb, length};
 ghost use Rattle.lists.specs.Entries.{some};
 ghost use Rattle.power.specs.Power.{tenths};

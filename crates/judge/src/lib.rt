@@ -1,4 +1,6 @@
 // What a call did, held against the number that is due: the first whose condition holds, and 0 if none does.
+#![tactic(auto)]
+
 ghost use Rattle.std.specs.Prelude.{◌≡◌, cond, not, ◌&&◌, eqb};
 ghost use Rattle.verdict.specs.declared.Verdict.TheVariants.{Held, Broken};
 ghost use Rattle.judge.specs.Alike.{alike};

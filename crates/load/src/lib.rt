@@ -1,4 +1,6 @@
 // From the bytes of an image to the cells of its table.
+#![tactic(auto)]
+
 ghost use Rattle.std.specs.Prelude.{◌≡◌, true, ◌+◌, ◌<◌, length, replicate};
 ghost use Rattle.lists.specs.Bytes.{word_at};
 ghost use Rattle.sizes.specs.Sizes.{most_ports};

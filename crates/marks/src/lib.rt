@@ -1,4 +1,6 @@
 // What a port has shown since it last stood in IDLE, worked out from the sample bytes, with document 01's limits of signature and class.
+#![tactic(auto)]
+
 pub mod bytes;
 
 ghost use Rattle.std.specs.Prelude.{◌≡◌, ◌<◌};

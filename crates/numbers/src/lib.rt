@@ -1,4 +1,6 @@
 // The nine numbers that a C caller hands in for the fields of a power TLV: whether they are fields, and of which form.
+#![tactic(auto)]
+
 ghost use Rattle.std.specs.Prelude.{◌≡◌};
 ghost use Rattle.numbers.specs.Numbers.{no_form, no_fields, form_given};
 

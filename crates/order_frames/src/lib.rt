@@ -1,6 +1,8 @@
 // "Order of checks": for the search, the reader and the writer the first number of document 01's list whose condition holds, and 0 if none
 // does, worked out from the bytes and the fields, for the programs that judge the core. Nothing of it is borrowed from the core but the names
 // of a TLV's fields.
+#![tactic(auto)]
+
 ghost use Rattle.std.specs.Prelude.{◌≡◌, ◌+◌, ◌<◌, ◌≤◌, ◌^◌, length};
 ghost use Rattle.lists.specs.Bytes.{word_at};
 ghost use Rattle.lists.specs.Bits.{one};

@@ -1,1 +1,3 @@
 // What a port's move can come to, and what follows of every move: laws, and no code.
+#![tactic(auto)]
+

@@ -1,4 +1,6 @@
 // The words of a line, each parted from the next by one space, and the numbers and bytes that they are.
+#![tactic(auto)]
+
 ghost use Rattle.std.specs.Prelude.{◌≡◌, true, ◌++◌, ◌≤◌, ◌/◌, ◌-◌, length, take, drop, get_or};
 ghost use Rattle.lists.specs.Every.{every};
 ghost use Rattle.parts.specs.Decimal.{more_of, number_in};

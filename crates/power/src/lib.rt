@@ -1,4 +1,6 @@
 // Power is a kind of its own, counted in tenths of a watt.
+#![tactic(auto)]
+
 ghost use Rattle.std.specs.Prelude.{◌≡◌};
 ghost use Rattle.power.specs.Power.{at_most, same, supply_of, plus, join, fits};
 

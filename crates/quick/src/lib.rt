@@ -1,5 +1,7 @@
 // Most moves change counters and nothing else. One pass over the lent cells makes those moves, and marks the ports that need the whole
 // step.
+#![tactic(auto)]
+
 ghost use Rattle.std.specs.Prelude.{◌≡◌, ◌%◌, ◌<◌, ◌≤◌, ◌||◌, length, if◌then◌else◌, nat_lt, slice_index};
 ghost use Rattle.sizes.specs.Sizes.{most_ports};
 ghost use Rattle.lists.specs.Every.{some_below};

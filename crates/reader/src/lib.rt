@@ -1,4 +1,6 @@
 // The reader: bytes to the fields of one power TLV.
+#![tactic(auto)]
+
 ghost use Rattle.std.specs.Prelude.{◌≡◌, true, ◌+◌, ◌<◌, ◌≤◌, length};
 ghost use Rattle.header.specs.Header.{size_at};
 ghost use Rattle.reader.specs.Read.{exactly_one, added_in, form_in, read_of};

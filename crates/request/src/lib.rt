@@ -1,5 +1,7 @@
 // A device's request for power, on the cells that a caller lends: the level that it asks for, what all closed ports would draw with it, and
 // the call. It changes the cells where they stand, and a refusal none of them.
+#![tactic(auto)]
+
 ghost use Rattle.std.specs.Prelude.{◌≡◌, cond, ◌<◌, ◌^◌};
 ghost use Rattle.power.specs.Power.{sum_of};
 ghost use Rattle.port.specs.States.{closed};

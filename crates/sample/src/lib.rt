@@ -1,4 +1,6 @@
 // A port's sample: 14 bytes of a block, and the six flags of its last number.
+#![tactic(auto)]
+
 ghost use Rattle.std.specs.Prelude.{◌≡◌, ◌+◌, ◌<◌, length};
 ghost use Rattle.lists.specs.Bytes.{word_at};
 ghost use Rattle.sample.specs.Sample.{sample_of, flags_of};

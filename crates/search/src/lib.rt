@@ -1,4 +1,6 @@
 // The search: one walk over a PDU, TLV by TLV, that copies nothing.
+#![tactic(auto)]
+
 ghost use Rattle.std.specs.Prelude.{◌≡◌, ◌+◌, ◌≤◌, length, take, drop};
 ghost use Rattle.header.specs.Header.{size_at};
 ghost use Rattle.search.specs.Search.{search_of};

@@ -3,6 +3,8 @@
 // the two masks"; "the figure is then stored"; "places at or past the port count .. never change"; and that no control word does. Not covered:
 // "each port moves as the diagram rules of document 01 say", since a program could only repeat the core: there the definition is the statement,
 // `Ticks` of the crate `statements`. "The rule by which the supply is shared" has a program of its own, in the crate `second_sharing`.
+#![tactic(auto)]
+
 mod kept;
 mod masks;
 

@@ -1,6 +1,8 @@
 // The second demand, of frames: "Whatever is written reads back as written; bytes that read, with 3:2 zero, are rewritten the same." and
 // "Room past a written TLV keeps its bytes." The functions that ship write and read; whether document 01 refuses is worked out anew, by
 // `order_frames`.
+#![tactic(auto)]
+
 mod same;
 
 ghost use Rattle.std.specs.Prelude.{◌≡◌, cond};

@@ -2,6 +2,8 @@
 // first that is shed did not. A kept port draws what it claimed; and kept or shed, it is in the state that document 01 sends it to. It is asked
 // where no port had latch 12 before the tick: then the shed ports are exactly those that have it after, and no move is made a second time to tell
 // them. What the ports' own moves come to is not judged.
+#![tactic(auto)]
+
 mod ranking;
 
 ghost use Rattle.std.specs.Prelude.{◌≡◌, cond, ◌&&◌, ◌+◌, ◌%◌, ◌<◌, ◌≤◌, ◌^◌, min, eqb, length, get_or};

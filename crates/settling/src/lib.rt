@@ -1,4 +1,6 @@
 // What the sharing of the supply asks of a port, and what it does to it.
+#![tactic(auto)]
+
 ghost use Rattle.std.specs.Prelude.{◌≡◌, ◌<◌};
 ghost use Rattle.settling.specs.Claim.{rank_in, settled_as};
 ghost use Rattle.port.specs.States.{in_test};

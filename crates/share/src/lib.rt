@@ -1,4 +1,6 @@
 // The sharing of one supply. It knows claims only, a rank and a demand for each place, and no port.
+#![tactic(auto)]
+
 ghost use Rattle.std.specs.Prelude.{◌≡◌, ◌<◌, ◌^◌};
 ghost use Rattle.sizes.specs.Sizes.{most_ports};
 ghost use Rattle.lists.specs.Places.{tabulate};

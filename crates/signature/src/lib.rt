@@ -1,4 +1,6 @@
 // The signature that two voltages (mV) and two currents (µA) show.
+#![tactic(auto)]
+
 ghost use Rattle.std.specs.Prelude.{◌≡◌, ◌<◌, ◌^◌, pos, ◌-ℤ◌};
 ghost use Rattle.std.specs.Int.Signed.{mag};
 ghost use Rattle.signature.specs.Signature.{outside, by_differences, signature_of};

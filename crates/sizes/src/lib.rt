@@ -1,4 +1,6 @@
 // The numbers that several crates name, each once. The definitions have theirs in specs/Sizes, and beside what they measure.
+#![tactic(auto)]
+
 pub mod refusals;
 
 // "1 to 48 Type 2 ports"

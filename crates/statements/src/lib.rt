@@ -1,1 +1,3 @@
 // What is claimed of the core as a whole: definitions and theorems in specs/, and no code.
+#![tactic(auto)]
+

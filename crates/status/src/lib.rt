@@ -1,4 +1,6 @@
 // The status word: latches, class and condition.
+#![tactic(auto)]
+
 ghost use Rattle.std.specs.Prelude.{◌≡◌, ◌*◌, ◌<◌, ◌≤◌};
 ghost use Rattle.lists.specs.Bits.{one};
 ghost use Rattle.status.specs.Status.{join, condition_code, status_word};

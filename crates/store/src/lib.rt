@@ -1,4 +1,6 @@
 // From the cells of a table to the bytes of its image, in room that the caller lends.
+#![tactic(auto)]
+
 ghost use Rattle.std.specs.Prelude.{◌≡◌, true, ◌/◌, ◌%◌, ◌<◌, length};
 ghost use Rattle.sizes.specs.Sizes.{most_ports};
 ghost use Rattle.cells.specs.Cells.{port_of, table_of, cells_long};

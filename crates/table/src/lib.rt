@@ -1,2 +1,4 @@
 // The table of a board's ports, and what is answered of it.
+#![tactic(auto)]
+
 pub mod form;

@@ -1,4 +1,6 @@
 // What the closed ports of lent cells draw, and the masks that name them.
+#![tactic(auto)]
+
 ghost use Rattle.std.specs.Prelude.{◌≡◌, cond, ◌+◌, ◌*◌, ◌<◌, ◌≤◌, ◌^◌, length, get_or};
 ghost use Rattle.sizes.specs.Sizes.{most_ports};
 ghost use Rattle.port.specs.States.{closed};

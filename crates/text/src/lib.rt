@@ -1,4 +1,6 @@
 // Text written into a room from a place on, as far as it fits. Each function says where the next byte goes.
+#![tactic(auto)]
+
 ghost use Rattle.std.specs.Prelude.{◌≡◌, [], ◌∷◌, ◌++◌, ◌<◌};
 ghost use Rattle.parts.specs.Decimal.{decimal};
 ghost use Rattle.parts.specs.Hex.{glyph_of, hex_of};

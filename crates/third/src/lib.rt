@@ -2,6 +2,8 @@
 // range; let the tick be accepted. Every port closed under the smaller figure is closed under the greater. Under either, the closed
 // ports' demands add up to no more than that figure, and no port outside the forced test state is closed unless, since it last stood in
 // IDLE, it showed a valid signature and gave a class."
+#![tactic(auto)]
+
 ghost use Rattle.std.specs.Prelude.{◌≡◌, cond};
 ghost use Rattle.verdict.specs.declared.Verdict.TheVariants.{Held, NotAsked};
 ghost use Rattle.third_tests.specs.Asks.{asks};

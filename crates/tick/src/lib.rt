@@ -1,4 +1,6 @@
 // The tick on a table that the caller lends: refusals first, and then a part that cannot refuse and changes the cells in place.
+#![tactic(auto)]
+
 mod ports;
 mod sharing;
 mod steps;

@@ -1,4 +1,6 @@
 // What the program of a demand answers.
+#![tactic(auto)]
+
 #[derive(Drop)]
 pub enum Verdict {
     // It was asked, and it holds.

@@ -1,4 +1,6 @@
 // The walk over a PDU, one TLV at a time: a walker holds the PDU and a boundary in it.
+#![tactic(auto)]
+
 ghost use Rattle.std.specs.Prelude.{◌≡◌};
 ghost use Rattle.walk.specs.Walk.{step_of};
 

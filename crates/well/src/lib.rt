@@ -1,5 +1,7 @@
 // The test that every call makes first of the cells that it is lent: refusal 13. Tests of bits and comparisons with no branch, so that a
 // compiler does them for eight ports at once.
+#![tactic(auto)]
+
 ghost use Rattle.std.specs.Prelude.{◌≡◌, not, ◌<◌, ◌≤◌, max, leb, length};
 ghost use Rattle.sizes.specs.Sizes.{most_count, most_ports};
 ghost use Rattle.lists.specs.Bits.{one};
