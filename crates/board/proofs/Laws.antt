@@ -1,5 +1,5 @@
--- What follows of every board, for whoever stands above: its budgets, grants and forced claim are demands that a well_made_lem port may have,
--- and so is none; a class that is shown is one that a well_made_lem port may have.
+-- What follows of every board, for whoever stands above: its budgets, grants and forced claim are demands that a well-made port may have,
+-- and so is none; a class that is shown is one that a well-made port may have.
 -- Assumes nothing.
 use Prim.Native.Nat.{ℕ, ◌≤◌}
 use mathlib.Core.Path.{◌≡◌, refl}

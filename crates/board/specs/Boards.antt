@@ -21,7 +21,7 @@ abbrev pub class_shown : Board → ℕ → ℕ → ℕ → ClassReading
 class_shown Access c1 c2 c3 = access.class_of_two c1 c2
 class_shown FourPair c1 c2 c3 = fourPair.class_of_three c1 c2 c3
 
--- "a class over 4" is ill_made_lem; "classes 0 to 6 are well_made_lem here"
+-- "a class over 4" is ill-made; "classes 0 to 6 are well-made here"
 abbrev pub most_class : Board → ℕ
 most_class Access = 4
 most_class FourPair = 6
@@ -36,7 +36,7 @@ abbrev pub forced_claim : Board → Power
 forced_claim Access = forced
 forced_claim FourPair = fourPair.forced_claim
 
--- what is not "a demand not 0, 40, 70, 154 or 300"; "Demands 0 to 600 .. are well_made_lem here"
+-- what is not "a demand not 0, 40, 70, 154 or 300"; "Demands 0 to 600 .. are well-made here"
 abbrev pub is_demand : Board → Power → Bool
 is_demand Access d = access.is_demand d
 is_demand FourPair d = fourPair.is_demand d

@@ -63,7 +63,7 @@ names_apart A = refl
 names_apart B = refl
 names_apart Both = refl
 
--- a closed port of a well_made_lem table names A or B
+-- a closed port of a well-made table names A or B
 closed_names : (t : Table) → WellTable t → (p : ℕ) → closed_at t p ≡ true → (names_a (pair_of (port_at t p).control) || names_b (pair_of (port_at t p).control)) ≡ true
 unfolding closed_at
 closed_names t w p e = names_one (port_at t p).control (w.ports p (ltb-true p t.count (and_left (ltb p t.count) (closed (port_at t p).state) e))).control

@@ -1,4 +1,4 @@
--- Well-made tables stay well_made_lem, over any move whose ports are well-made: no tick makes an ill_made_lem one.
+-- Well-made tables stay well-made, over any move whose ports are well-made: no tick makes an ill-made one.
 -- Assumes nothing.
 use Prim.Native.Nat.{ℕ, ◌<◌}
 use mathlib.Core.Path.{◌≡◌}
@@ -24,7 +24,7 @@ use Rattle.table.specs.declared.form.Table.{Table}
 use Rattle.boards.proofs.Laws.{port_here}
 use Rattle.boards.specs.Sharing.{rank_at, kept_at, settled_at, table_after}
 
--- what these laws ask of a board's move: its ports are well_made_lem
+-- what these laws ask of a board's move: its ports are well-made
 abbrev pub Wells : Table → (ℕ → Moved) → Type 0
 Wells t moved = (p : ℕ) → p < t.count → Well (moved p).port
 

@@ -15,7 +15,7 @@ use Rattle.class.specs.declared.ClassReading.{ClassReading}
 use Rattle.class.specs.declared.Events.{Events}
 use Rattle.class.specs.declared.Events.TheVariants.{Is as Shows, OverCurrent, Disagree}
 
--- the rule of the budgets' table: each is a demand that a well_made_lem port may have, and so is what a number that is no class has.
+-- the rule of the budgets' table: each is a demand that a well-made port may have, and so is what a number that is no class has.
 -- The test is computed once over the table
 pub budget_is_demand : (class : ℕ) → is_demand (budget_of class) ≡ true
 unfolding is_demand budget_of all some

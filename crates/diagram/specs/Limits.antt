@@ -30,7 +30,7 @@ classifying_ticks = 400
 abbrev pub classifying_ends : ℕ → Bool
 classifying_ends n = leb classifying_ticks n
 
--- POWER_UP: "the power_on counter runs on: at 400 to IDLE"
+-- POWER_UP: "the power-on counter runs on: at 400 to IDLE"
 abbrev pub power_up_ticks : ℕ
 power_up_ticks = 400
 

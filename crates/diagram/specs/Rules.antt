@@ -67,7 +67,7 @@ classed OverCurrent q = latching latch_over_current (enter Idle q)
 classed Disagree q = latching latch_disagree (enter Idle q)
 classed (Is k d) q = asking (with_class k (with_demand d q))
 
--- "CLASSIFYING (power_on counter from entry): at 400 to IDLE."
+-- "CLASSIFYING (power-on counter from entry): at 400 to IDLE."
 unfoldable pub classifying : Port → Reading → Moved
 classifying p r =
     let q = with_counts (power_on_at (up p.counts.power_on) p.counts) p in
@@ -84,7 +84,7 @@ watched q fault sound =
     (cond (fault_by q.counts.overload) (latching latch_overload fault)
     sound)
 
--- "in POWER_UP, the power_on counter runs on: at 400 to IDLE; else settled goes to POWER_ON."
+-- "in POWER_UP, the power-on counter runs on: at 400 to IDLE; else settled goes to POWER_ON."
 unfoldable pub risen : Bool → Port → Port
 risen settled q = cond (power_up_ends q.counts.power_on) (enter Idle q) (cond settled (enter PowerOn q) q)
 

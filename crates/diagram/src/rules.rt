@@ -198,7 +198,7 @@ fn watched(port: Port, fault: Port, sound: Moved) -> Moved
     sound
 }
 
-// At 400 the power_on counter goes before the settled flag.
+// At 400 the power-on counter goes before the settled flag.
 fn risen(settled: bool, port: Port) -> Port
     ensures { result ≡ risen settled port }
 {

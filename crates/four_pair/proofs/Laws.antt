@@ -49,7 +49,7 @@ pub demand_for_at_most : (value class : ℕ) → (demand_for value class).0 ≤ 
 unfolding demand_for
 demand_for_at_most value class = le_trans (min-le_right (loss_of value) (budget_of class).0) (budget_at_most class)
 
--- "Demands 0 to 600 .. are well_made_lem here"
+-- "Demands 0 to 600 .. are well-made here"
 pub budget_is_demand : (class : ℕ) → is_demand (budget_of class) ≡ true
 unfolding is_demand
 budget_is_demand class = le-leb (budget_of class).0 600 (budget_at_most class)
@@ -83,6 +83,6 @@ class_of_three_at_most_six c1 c2 c3 =
     (third_at_most_six (class_of c3))
     (four_is_six (class_of_two c1 c2).shown (class_of_two_at_most_four c1 c2))
 
--- "classes 0 to 6 are well_made_lem here"
+-- "classes 0 to 6 are well-made here"
 pub three_class : (c1 c2 c3 k : ℕ) → (class_of_three c1 c2 c3).shown ≡ Shows k → k ≤ most_class
 three_class c1 c2 c3 k e = leb-true k most_class (sym (ap (atMostClass most_class) e) ∙ class_of_three_at_most_six c1 c2 c3)

@@ -10,7 +10,7 @@ use Rattle.class.specs.declared.ClassReading.{ClassReading}
 use Rattle.class.specs.declared.Events.{Events}
 use Rattle.class.specs.declared.Events.TheVariants.{Is as Shows, OverCurrent, Disagree}
 
--- "Demands 0 to 600 and classes 0 to 6 are well_made_lem here."
+-- "Demands 0 to 600 and classes 0 to 6 are well-made here."
 abbrev pub most_class : ℕ
 most_class = 6
 

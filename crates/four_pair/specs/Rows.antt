@@ -18,7 +18,7 @@ pub data Question : Type 0 where
   loss : ℕ → Question
   -- what a port is granted for a request, by its class
   granted : ℕ → ℕ → Question
-  -- may a well_made_lem port have this demand
+  -- may a well-made port have this demand
   demand : ℕ → Question
   forced_claim_row : Question
 

@@ -1,4 +1,4 @@
--- Refusal 13 of lent cells, condition by condition, and that well_made_lem cells are those of which none holds.
+-- Refusal 13 of lent cells, condition by condition, and that well-made cells are those of which none holds.
 -- Assumes nothing.
 use Rattle.std.specs.Prelude.{ℕ, Bool, not, ◌||◌, List}
 use Rattle.table.specs.WellMade.{ill_port, ill_made}
@@ -8,6 +8,6 @@ use Rattle.cells.specs.Cells.{port_of, table_of, port_holds, is_table}
 unfoldable pub ill_at : List ℕ → ℕ → Bool
 ill_at l p = not (port_holds l p) || ill_port (port_of l p)
 
--- "13 first, in every call that takes a table": cells that are no table, or an "ill_made_lem table"
+-- "13 first, in every call that takes a table": cells that are no table, or an "ill-made table"
 unfoldable pub ill_cells : List ℕ → Bool
 ill_cells l = not (is_table l) || ill_made (table_of l)

@@ -15,7 +15,7 @@ use Rattle.cells.specs.Codes.{latch_byte}
 abbrev pub word : ℕ → List ℕ
 word n = n / 256 ∷ n % 256 ∷ []
 
--- docs/CONSOLE.md: "counters of 2 bytes: detection, backoff, error delay, power_on, limiting, overload, no load"
+-- docs/CONSOLE.md: "counters of 2 bytes: detection, backoff, error delay, power-on, limiting, overload, no load"
 abbrev pub count_bytes : Counts → List ℕ
 count_bytes c = word c.detection ++ word c.backoff ++ word c.error_delay ++ word c.power_on ++ word c.limiting ++ word c.overload ++ word c.no_load
 

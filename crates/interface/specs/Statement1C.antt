@@ -29,7 +29,7 @@ first_number rs = ladder rs (λ k. k) 0
 abbrev pub start_list : List ℕ → ℕ → List (ℕ × Bool)
 start_list cells ports = (13, not (eqb (length cells) cells_long)) ∷ cold_refusals ports
 
--- "13 first, in every call that takes a table": 13 for cells that are no table, and then document 01's, which starts with 13 of an ill_made_lem one
+-- "13 first, in every call that takes a table": 13 for cells that are no table, and then document 01's, which starts with 13 of an ill-made one
 abbrev pub control_list : List ℕ → ℕ → ℕ → List (ℕ × Bool)
 control_list cells port word = (13, not (is_table cells)) ∷ control_refusals (table_of cells) port word
 

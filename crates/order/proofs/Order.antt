@@ -1,4 +1,4 @@
--- The first number of a list that starts with what is no table and what is ill_made_lem.
+-- The first number of a list that starts with what is no table and what is ill-made.
 -- Assumes nothing.
 use Prim.Native.Nat.{ℕ, ◌+◌, ◌/◌, ◌%◌}
 use mathlib.Core.Path.{◌≡◌, refl, sym, ◌∙◌, ap, ap₂}

@@ -1,4 +1,4 @@
--- The access switch's move keeps a port well_made_lem; that settling does is a law of every board (`boards`).
+-- The access switch's move keeps a port well-made; that settling does is a law of every board (`boards`).
 -- Assumes nothing.
 use Prim.Native.Nat.{◌≤◌}
 use mathlib.Core.Path.{◌≡◌, refl}
@@ -72,7 +72,7 @@ forced_demand : is_demand forced ≡ true
 unfolding is_demand some
 forced_demand = refl
 
--- a move keeps a port well_made_lem
+-- a move keeps a port well-made
 pub step_well : (p : Port) (r : Reading) → WellClass r.class → Well p → Well (step forced p r).port
 step_well p r g w =
     let s = p.state in

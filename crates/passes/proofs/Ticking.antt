@@ -55,7 +55,7 @@ use Rattle.passes.proofs.Settling.{claimed_at_most, quiet_is, shared_is}
 use Rattle.passes.specs.Tick.{moved_at}
 use Rattle.passes.proofs.MovesWell.{digest_well, step_well}
 
--- ---- what a well_made_lem table lets the quick pass go by
+-- ---- what a well-made table lets the quick pass go by
 
 -- a word that a write takes has no reserved enable code
 enable_small : (w : ℕ) → refused w ≡ false → w % 4 < 3

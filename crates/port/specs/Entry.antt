@@ -18,7 +18,7 @@ unfoldable pub during : Bool → ℕ → ℕ
 during runs n = cond runs (up n) 0
 
 -- "Each counter is set to 0 on the entry named": "DETECTING (counter from entry)", "BACKOFF (counter from entry)", "CLASSIFYING
--- (power_on counter from entry)", "consecutive ticks of limiting, and of overload, are counted from POWER_UP's entry", "320 consecutive
+-- (power-on counter from entry)", "consecutive ticks of limiting, and of overload, are counted from POWER_UP's entry", "320 consecutive
 -- ticks without load, counted from its entry" (POWER_ON), "ERROR_DELAY (counter from entry)", "the same two counts, from its own entry"
 -- (TEST_MODE). A counter "otherwise stands still"
 abbrev pub counts_on_entry : State → Counts → Counts

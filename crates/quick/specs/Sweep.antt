@@ -15,7 +15,7 @@ use Rattle.quick.specs.declared.FlagsShown.{FlagsShown}
 
 -- ---- what the code does with a port's numbers
 
--- one more, in 16 bits; a counter of a well_made_lem table does not come near their end
+-- one more, in 16 bits; a counter of a well-made table does not come near their end
 abbrev pub wrapped : ℕ → ℕ
 wrapped n = (n + 1) % 2 ^ 16
 

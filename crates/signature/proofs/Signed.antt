@@ -43,4 +43,4 @@ times_fits k z p q =
 
 -- a signed number of 32 bits reads back from its bits
 pub back : (z : ℤ) → mag z < 2 ^ 31 → to_z w32 (of_z w32 z) ≡ z
-back z h = to_z-of_z (record { sfits = h })
+back z h = to_z-of_z {w = w32} (record { sfits = h })

@@ -10,7 +10,7 @@ most_ports = 48
 abbrev pub sample_bytes : ℕ
 sample_bytes = 14
 
--- a counter "adds one each tick but stops at 2,000"; "a counter over 2,000" is ill_made_lem
+-- a counter "adds one each tick but stops at 2,000"; "a counter over 2,000" is ill-made
 abbrev pub most_count : ℕ
 most_count = 2000
 

@@ -36,5 +36,5 @@ pub const OVER_CLASS: u8 = 11;
 // "request doesn't fit the supply"
 pub const OVER_SUPPLY: u8 = 12;
 
-// "ill_made_lem table"
+// "ill-made table"
 pub const ILL_MADE: u8 = 13;

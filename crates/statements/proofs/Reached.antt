@@ -1,4 +1,4 @@
--- What holds of every table that a history reaches: it is well_made_lem, and each port has shown what its state needs.
+-- What holds of every table that a history reaches: it is well-made, and each port has shown what its state needs.
 -- Assumes nothing.
 use Prim.Native.Nat.{ℕ, zero, suc, ◌*◌, ◌≤◌, ◌<◌}
 use mathlib.Core.Path.{◌≡◌, refl, sym, ◌∙◌, ap, subst}
@@ -36,7 +36,7 @@ use Rattle.table.specs.declared.form.Replied.{Replied}
 use Rattle.statements.specs.History.{Call, control, status, requested as asked, ticked, after, reached, accepted, Shown, nothing, seen, adds, shown}
 use Rattle.statements.proofs.KeepsShown.{Needs, idle_needs, tick_needs, tick_needs_idle}
 
--- a call that leaves count and states as they were, and the table well_made_lem
+-- a call that leaves count and states as they were, and the table well-made
 record Keeps (t u : Table) : Type 0 where
   count : u.count ≡ t.count
   well : well_made t ≡ true → well_made u ≡ true
@@ -75,7 +75,7 @@ request_keeps t p v =
     ladder_holds (λ (r : Replied). Keeps t r.table) (λ k. refuse k t) _ (request_refusals t p v) (λ k. same t)
     (λ c. changed p (demanding (level_of v) (port_at t p)) t refl (λ w. demanding_well (level_of v) p t w (leb-false t.count p c.1.0) (budget_is_demand _)))
 
--- an accepted tick: its table is the tick's, its figure is in range, and it came from a well_made_lem table
+-- an accepted tick: its table is the tick's, its figure is in range, and it came from a well-made table
 pub record Ran (t : Table) (block : List ℕ) (figure : ℕ) (r : Ticked) : Type 0 where
   pub answer : accepted r.answer ≡ true
   pub whole : r ≡ answered (table_after t (moved_at t block) (tenths figure))
@@ -104,7 +104,7 @@ pub in_range : (f : ℕ) → f ≤ 60000 → at_most (tenths f) highest_supply �
 unfolding at_most
 in_range f h = le-leb f 60000 h
 
--- every call keeps a table well_made_lem
+-- every call keeps a table well-made
 call_well : (t : Table) (c : Call) → well_made t ≡ true → well_made (after t c) ≡ true
 unfolding after
 call_well t (control p w) e = (control_keeps t p w).well e
@@ -120,7 +120,7 @@ pub cold_table_lem : (n : ℕ) → 1 ≤ n → n ≤ most_ports → (cold_start 
 unfolding cold_start done
 cold_table_lem n a b = simp (ne_eqb n 0 (λ e. omega arith), le-ltb most_ports n b)
 
--- every table that a history reaches is well_made_lem
+-- every table that a history reaches is well-made
 pub reached_well : (n : ℕ) → 1 ≤ n → n ≤ most_ports → (h : List Call) → well_made (reached n h) ≡ true
 unfolding reached
 reached_well n a b [] = subst (λ (t : Table). well_made t ≡ true) (sym (cold_table_lem n a b)) (cold_well n a b)

@@ -1,4 +1,4 @@
--- No call makes an ill_made_lem table: the access switch's tick by the laws of every board, and the calls that change one port. And what those
+-- No call makes an ill-made table: the access switch's tick by the laws of every board, and the calls that change one port. And what those
 -- laws ask of its move.
 -- Assumes nothing.
 use Prim.Native.Nat.{ℕ, zero, suc, ◌*◌, ◌≤◌, ◌<◌}

@@ -14,7 +14,7 @@ use Rattle.diagram.specs.Limits.{classifying_ticks}
 use Rattle.diagram.specs.Step.{step}
 use Rattle.block.specs.Digest.{digest}
 
--- a port takes what its class currents show: it stands in CLASSIFYING (code 4), neither enable rule decides, the power_on counter is not
+-- a port takes what its class currents show: it stands in CLASSIFYING (code 4), neither enable rule decides, the power-on counter is not
 -- "at 400" with this tick, and class is done
 unfoldable pub takes_class : Port → Sample → Bool
 takes_class p s =

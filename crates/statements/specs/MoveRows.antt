@@ -51,7 +51,7 @@ rows =
     ∷ (from Backoff on 1999 quiet, to_idle)
     ∷ (from ErrorDelay on 748 quiet, to ErrorDelay)
     ∷ (from ErrorDelay on 749 quiet, to_idle)
-    -- "CLASSIFYING (power_on counter from entry): at 400 to IDLE. Else if class is done: failure to IDLE; a class sets class and demand, and asks for POWER_UP."
+    -- "CLASSIFYING (power-on counter from entry): at 400 to IDLE. Else if class is done: failure to IDLE; a class sets class and demand, and asks for POWER_UP."
     ∷ (from Classifying on 398 quiet, to Classifying)
     ∷ (from Classifying on 399 quiet, to_idle)
     ∷ (from Classifying on 399 (gives (Is 3 (tenths 154))), to_idle)
@@ -84,7 +84,7 @@ rows =
     ∷ (from PowerOn on 59 limits, latches latch_short ErrorDelay)
     ∷ (from PowerOn on 59 overloads, latches latch_overload ErrorDelay)
     ∷ (from PowerOn on 319 does_both, latches latch_short ErrorDelay)
-    -- "in POWER_UP, the power_on counter runs on: at 400 to IDLE; else settled goes to POWER_ON."
+    -- "in POWER_UP, the power-on counter runs on: at 400 to IDLE; else settled goes to POWER_ON."
     ∷ (from PowerUp on 398 quiet, to PowerUp)
     ∷ (from PowerUp on 398 settling, to PowerOn)
     ∷ (from PowerUp on 399 settling, to_idle)

@@ -33,7 +33,7 @@ pub data Question : Type 0 where
   -- C1, C2
   two_currents : ℕ → ℕ → Question
   budget_of_row : ℕ → Question
-  -- may a well_made_lem port have this demand
+  -- may a well-made port have this demand
   demand : ℕ → Question
   -- the sample of a port of a block
   sample : List ℕ → ℕ → Question

@@ -1,4 +1,4 @@
--- Rows on what a well_made_lem table is. Proved in proofs/CallRows.
+-- Rows on what a well-made table is. Proved in proofs/CallRows.
 -- Assumes nothing.
 use Rattle.std.specs.Prelude.{ℕ, Bool, true, false, List, [], ◌∷◌, replicate}
 use Rattle.power.specs.Power.{tenths}
@@ -27,7 +27,7 @@ table n supply p q = record { ports = p ∷ q ∷ replicate 46 cold_port; count 
 abbrev pub alone : Port → Table
 alone p = table 1 0 p cold_port
 
--- "ill_made_lem table: port count 0 or over 48; a stored supply over 60,000; or, in a port below the count, a counter over 2,000, a class over 4,
+-- "ill-made table: port count 0 or over 48; a stored supply over 60,000; or, in a port below the count, a counter over 2,000, a class over 4,
 -- a control word that a write refuses with 3, or a demand not 0, 40, 70, 154 or 300"
 unfoldable pub tables : List (Table × Bool)
 tables =

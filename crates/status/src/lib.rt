@@ -75,7 +75,7 @@ fn place(set: bool, value: u16) -> u16
     if set { value } else { 0 }
 }
 
-// Of a class the word has room for three bits; a well_made_lem port's class is at most 4.
+// Of a class the word has room for three bits; a well-made port's class is at most 4.
 pub fn status_word(latches: Latches, class: u8, condition: Condition) -> u16
     ensures { result ≡ status_word latches class condition }
 {

@@ -16,7 +16,7 @@ use Rattle.table.specs.Head.{well_head}
 use Rattle.table.proofs.Head.{well_made_is, well_parts}
 use Rattle.table.specs.WellMade.{ill_made, well_port, well_made}
 
--- a table is well_made_lem or ill_made_lem
+-- a table is well-made or ill-made
 pub ill_made_lem : (t : Table) → well_made t ≡ false → ill_made t ≡ true
 unfolding well_made
 ill_made_lem t = not-false (ill_made t)
@@ -25,11 +25,11 @@ pub none_ill : (t : Table) → well_made t ≡ true → ill_made t ≡ false
 unfolding well_made
 none_ill t = not-true (ill_made t)
 
--- a well_made_lem table has at most 48 ports
+-- a well-made table has at most 48 ports
 pub well_count : (t : Table) → well_made t ≡ true → t.count ≤ most_ports
 well_count t e = leb-true t.count most_ports (and_left (leb t.count most_ports) _ (and_right (leb 1 t.count) _ (rw (well_made_is t) at e)))
 
--- and each port below the count is well_made_lem
+-- and each port below the count is well-made
 pub well_at : (t : Table) → well_made t ≡ true → (p : ℕ) → p < t.count → well_port (port_at t p) ≡ true
 well_at t e =
     every_at t.count (λ p. well_port (port_at t p)) (and_right (well_head t.count t.supply) _ (rw (well_parts t) at e))

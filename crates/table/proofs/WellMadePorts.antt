@@ -1,4 +1,4 @@
--- Well-made ports and tables as facts, for whoever stands above the table; and that entering a state keeps a port well_made_lem.
+-- Well-made ports and tables as facts, for whoever stands above the table; and that entering a state keeps a port well-made.
 -- Assumes nothing.
 use Prim.Native.Nat.{ℕ, ◌≤◌, ◌<◌}
 use mathlib.Core.Path.{◌≡◌, refl}
@@ -148,7 +148,7 @@ pub enter_well : (s : State) (p : Port) → Well p → Well (enter s p)
 unfolding enter
 enter_well s p w = record { counts = entry_counts s p.counts w.counts; class = w.class; control = w.control; demand = entry_demand s p.demand w.demand }
 
--- the parts of a well_made_lem table
+-- the parts of a well-made table
 pub record WellTable (t : Table) : Type 0 where
   pub some_ports : leb 1 t.count ≡ true
   pub few_ports : leb t.count most_ports ≡ true

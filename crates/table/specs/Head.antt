@@ -1,4 +1,4 @@
--- A well_made_lem table by the tests that the code makes, and in two parts, as the tick makes them. A reader needs none of this: `well_made`
+-- A well-made table by the tests that the code makes, and in two parts, as the tick makes them. A reader needs none of this: `well_made`
 -- is the meaning.
 -- Assumes nothing.
 use Rattle.std.specs.Prelude.{ℕ, Bool, ◌&&◌, leb}
@@ -13,6 +13,6 @@ well_counts c =
     leb c.detection most_count && (leb c.backoff most_count && (leb c.error_delay most_count && (leb c.power_on most_count
     && (leb c.limiting most_count && (leb c.overload most_count && leb c.no_load most_count)))))
 
--- what a well_made_lem table has beside its ports
+-- what a well-made table has beside its ports
 unfoldable pub well_head : ℕ → Power → Bool
 well_head count supply = (leb 1 count && leb count most_ports) && at_most supply highest_supply

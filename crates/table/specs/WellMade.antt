@@ -1,4 +1,4 @@
--- Document 01, refusal 13, in its words and its order. A table is well_made_lem where none of it holds.
+-- Document 01, refusal 13, in its words and its order. A table is well-made where none of it holds.
 use Rattle.std.specs.Prelude.{ℕ, Bool, not, List, [], ◌∷◌, eqb, ltb}
 use Rattle.sizes.specs.Sizes.{most_count, most_ports}
 use Rattle.lists.specs.Every.{some_below}
@@ -21,7 +21,7 @@ unfoldable pub ill_port : Port → Bool
 ill_port p =
     one_holds (some (ltb most_count) (counters p.counts) ∷ ltb 4 p.class ∷ refused p.control ∷ not (is_demand p.demand) ∷ [])
 
--- "ill_made_lem table: port count 0 or over 48; a stored supply over 60,000; or, in a port below the count, .."
+-- "ill-made table: port count 0 or over 48; a stored supply over 60,000; or, in a port below the count, .."
 unfoldable pub ill_made : Table → Bool
 ill_made t =
     one_holds (eqb t.count 0 ∷ ltb most_ports t.count ∷ over t.supply highest_supply ∷ some_below t.count (λ p. ill_port (port_at t p)) ∷ [])

@@ -1,4 +1,4 @@
--- What well_made_lem cells are, for whoever stands above them; and the test of them, port by port.
+-- What well-made cells are, for whoever stands above them; and the test of them, port by port.
 -- Assumes nothing.
 use Prim.Native.Nat.{ℕ, zero, suc, ◌+◌, ◌≤◌, ◌<◌, max}
 use mathlib.Core.Path.{◌≡◌, refl, sym, ◌∙◌, ap}
@@ -88,7 +88,7 @@ well_cells_lem l =
     ∙ four (eqb (length l) cells_long) (every (count_cell l) (port_holds l)) (well_head (count_cell l) (tenths (supply_cell l))) (every (count_cell l) (λ q. well_port (port_of l q)))
     ∙ ap (λ (b : Bool). (eqb (length l) cells_long && well_head (count_cell l) (tenths (supply_cell l))) && b) (every_and (count_cell l) (port_holds l) (λ q. well_port (port_of l q)))
 
--- ---- what well_made_lem cells are
+-- ---- what well-made cells are
 
 module _ (l : List ℕ) (e : head_cells l ≡ true) where
   pub head_long : length l ≡ cells_long
@@ -130,7 +130,7 @@ cells_of l e =
       class = λ p h. (ports p h).class;
     }
 
--- ---- what a call comes to on cells that are not well_made_lem, and on those that are
+-- ---- what a call comes to on cells that are not well-made, and on those that are
 
 module _ {X : Type 0} (l : List ℕ) (rs : List (ℕ × Bool)) (refuse : ℕ → X) (value : X) where
   pub ill_cells_lem : well_cells l ≡ false → cond (is_table l) (ladder ((13, ill_made (table_of l)) ∷ rs) refuse value) (refuse 13) ≡ refuse 13

@@ -9,7 +9,7 @@ use Rattle.cells.specs.Cells.{cells_long, count_cell, supply_cell, port_of, tabl
 unfoldable pub head_cells : List ℕ → Bool
 head_cells l = eqb (length l) cells_long && well_head (count_cell l) (tenths (supply_cell l))
 
--- the cells are a table, and no "ill_made_lem table"
+-- the cells are a table, and no "ill-made table"
 unfoldable pub well_cells : List ℕ → Bool
 well_cells l = is_table l && well_made (table_of l)
 

@@ -1,4 +1,4 @@
--- `read_status` is `status_on`: 13, then 2, and then the port's word; its latches are cleared. A port below the count of well_made_lem cells is
+-- `read_status` is `status_on`: 13, then 2, and then the port's word; its latches are cleared. A port below the count of well-made cells is
 -- below 48. Assumes nothing.
 use mathlib.Core.Path.{◌≡◌, sym, ◌∙◌}
 use mathlib.Core.Bool.{true, false}

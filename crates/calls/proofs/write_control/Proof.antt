@@ -1,4 +1,4 @@
--- `write_control` is `control_on`: 13, then 2, and then what the ladder asks of the port. A port below the count of well_made_lem cells is below 48.
+-- `write_control` is `control_on`: 13, then 2, and then what the ladder asks of the port. A port below the count of well-made cells is below 48.
 -- Assumes nothing.
 use mathlib.Core.Path.{◌≡◌, sym, ◌∙◌, ap}
 use mathlib.Core.Bool.{true, false}

@@ -12,7 +12,7 @@ unfolding enable_of field
 enable_of_spec =
     tie.close
     (tie.spec
-    (λ c. simp (div-one, c.match.keys1))
-    (λ c. simp (div-one, c.match.keys2))
-    (λ c. simp (div-one, c.match.keys3))
-    (λ c. simp (div-one, ne_eqb _ 0 c.match.rest.0.0.1, ne_eqb _ 1 c.match.rest.0.1, ne_eqb _ 2 c.match.rest.1)))
+    (λ c. simp (div-one, c.in-0.is))
+    (λ c. simp (div-one, c.in-1.is))
+    (λ c. simp (div-one, c.in-2.is))
+    (λ c. simp (div-one, ne_eqb _ 0 c.in_default.in_default-own.rest.0.0.1, ne_eqb _ 1 c.in_default.in_default-own.rest.0.1, ne_eqb _ 2 c.in_default.in_default-own.rest.1)))

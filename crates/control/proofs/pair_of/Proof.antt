@@ -11,7 +11,7 @@ unfolding pair_of field
 pair_of_spec =
     tie.close
     (tie.spec
-    (λ c. simp c.match.keys1)
-    (λ c. simp c.match.keys2)
-    (λ c. simp c.match.keys3)
-    (λ c. simp (ne_eqb _ 0 c.match.rest.0.0.1, ne_eqb _ 1 c.match.rest.0.1, ne_eqb _ 2 c.match.rest.1)))
+    (λ c. simp c.in-0.is)
+    (λ c. simp c.in-1.is)
+    (λ c. simp c.in-2.is)
+    (λ c. simp (ne_eqb _ 0 c.in_default.in_default-own.rest.0.0.1, ne_eqb _ 1 c.in_default.in_default-own.rest.0.1, ne_eqb _ 2 c.in_default.in_default-own.rest.1)))

@@ -20,13 +20,13 @@ fixed_at_spec =
     tie.close
     (tie.spec
     (λ c. search rules)
-    (λ c. simp (spelt, ne_eqb _ _ c.if1.true))
+    (λ c. simp (spelt, ne_eqb _ _ c.if-bytes-at-ne0.true))
     (λ c. search rules)
     (λ c. search rules)
-    (λ c. simp (spelt, eq-eqb _ _ c.before.before.if1.false, ne_eqb _ _ c.if2.true))
+    (λ c. simp (spelt, eq-eqb _ _ c.if-bytes-at-ne0.false, ne_eqb _ _ c.if-bytes-at-ne18.true))
     (λ c. search rules)
     (λ c. search rules)
-    (λ c. simp (spelt, eq-eqb _ _ c.before.before.before.before.if1.false, eq-eqb _ _ c.before.before.if2.false, ne_eqb _ _ c.if3.true))
+    (λ c. simp (spelt, eq-eqb _ _ c.if-bytes-at-ne0.false, eq-eqb _ _ c.if-bytes-at-ne18.false, ne_eqb _ _ c.if-bytes-at-ne15.true))
     (λ c. search rules)
     (λ c. search rules)
-    (λ c. last _ _ c.before.before.before.before.before.if1.false c.before.before.before.if2.false c.before.if3.false))
+    (λ c. last _ _ c.if-bytes-at-ne0.false c.if-bytes-at-ne18.false c.if-bytes-at-ne15.false))

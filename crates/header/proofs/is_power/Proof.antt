@@ -13,13 +13,13 @@ use Rattle.header.proofs.Past.{there, short}
 use Rattle.header.proofs.is_power.Statement.{statement}
 use Rattle.header.proofs.is_power.Tie as tie
 
-inside : (c : tie.Else1) → c.before.before.before.args.at < length c.before.before.before.args.bytes.now
-inside c = let a = c.before.before.before.args in there a.bytes.now a.at (omega (arith, c.before.type_at.ensures, c.if1.false))
+inside : (c : tie.Else-type_at-ne127) → c.args.at < length c.args.bytes.now
+inside c = let a = c.args in there a.bytes.now a.at (omega (arith, c.type_at.ensures, c.if-type_at-ne127.false))
 
-cut : (c : tie.Then3) → fixed_at c.before.before.before.before.before.before.args.bytes.now (c.before.before.before.before.before.before.args.at + 2) ≡ false
+cut : (c : tie.Then-bytes-at-lt6) → fixed_at c.args.bytes.now (c.args.at + 2) ≡ false
 cut c =
-    let a = c.before.before.before.before.before.before.args in
-    short a.bytes.now (a.at + 2) (omega (arith, inside c.before.before.before, c.if3.true))
+    let a = c.args in
+    short a.bytes.now (a.at + 2) (omega (arith, inside c.before.before.before, c.if-bytes-at-lt6.true))
 
 pub is_power_spec : {M : Type 1} → statement M
 unfolding is_power
@@ -27,25 +27,25 @@ is_power_spec =
     tie.close
     (tie.spec
     (λ c κs. search rules)
-    (λ c. simp (← c.before.type_at.ensures, ne_eqb _ 127 c.if1.true))
+    (λ c. simp (← c.type_at.ensures, ne_eqb _ 127 c.if-type_at-ne127.true))
     (λ c κs. search rules)
-    (λ c. simp (← c.before.before.before.type_at.ensures, eq-eqb _ 127 c.before.before.if1.false, ← c.before.length_at.ensures.0, lt-leb 4 _ c.if2.true))
+    (λ c. simp (← c.type_at.ensures, eq-eqb _ 127 c.if-type_at-ne127.false, ← c.length_at.ensures.0, lt-leb 4 _ c.if-length_at-lt4.true))
     (λ c. omega (arith, inside c.before.before))
     (λ c.
     simp (
-      ← c.before.before.before.before.type_at.ensures,
-      eq-eqb _ 127 c.before.before.before.if1.false,
-      ← c.before.before.length_at.ensures.0,
-      le-leb 4 _ c.before.if2.false,
+      ← c.type_at.ensures,
+      eq-eqb _ 127 c.if-type_at-ne127.false,
+      ← c.length_at.ensures.0,
+      le-leb 4 _ c.if-length_at-lt4.false,
       cut c,
     ))
     (λ c. omega arith)
     (λ c κs. omega arith)
     (λ c.
     simp (
-      ← c.before.before.before.before.before.type_at.ensures,
-      eq-eqb _ 127 c.before.before.before.before.if1.false,
-      ← c.before.before.before.length_at.ensures.0,
-      le-leb 4 _ c.before.before.if2.false,
+      ← c.type_at.ensures,
+      eq-eqb _ 127 c.if-type_at-ne127.false,
+      ← c.length_at.ensures.0,
+      le-leb 4 _ c.if-length_at-lt4.false,
       c.fixed_at.ensures,
     )))

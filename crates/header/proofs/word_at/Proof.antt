@@ -14,19 +14,19 @@ unfolding word_at
 word_at_spec =
     tie.close
     (tie.spec
-    (λ c. sym (none c.before.args.bytes.now _ c.if1.true))
+    (λ c. sym (none c.args.bytes.now _ c.if-bytes-at.true))
     (λ c. search rules)
     (λ c. search rules)
-    (λ c. omega (arith, c.shared-slice-known.given c.before.before.before.args.at))
-    (λ c. omega (arith, c.shared-slice-known.given c.before.before.before.args.at))
-    (λ c. let a = c.before.before.before.args in omega (arith, half a.bytes.now a.at (omega arith)))
+    (λ c. omega (arith, c.shared_slice_known-1.given c.args.at))
+    (λ c. omega (arith, c.shared_slice_known-1.given c.args.at))
+    (λ c. let a = c.args in omega (arith, half a.bytes.now a.at (omega arith)))
     (λ c. search rules)
-    (λ c. omega (arith, c.shared-slice-known2.given c.before.before.before.args.at))
-    (λ c. omega (arith, c.shared-slice-known2.given c.before.before.before.args.at))
+    (λ c. omega (arith, c.shared_slice_known-2-1.given c.args.at))
+    (λ c. omega (arith, c.shared_slice_known-2-1.given c.args.at))
     (λ c. search rules)
     (λ c. search rules)
-    (λ c. let a = c.before.before.before.before.args in omega (arith, c.shared-slice-known3.given (a.at + 1)))
+    (λ c. let a = c.args in omega (arith, c.shared_slice_known-3-1.given (a.at + 1)))
     (λ c.
-    let a = c.before.before.before.before.args in
-    omega (arith, c.shared-slice-known3.given a.at, c.shared-slice-known3.given (a.at + 1)))
+    let a = c.args in
+    omega (arith, c.shared_slice_known-3-1.given a.at, c.shared_slice_known-3-1.given (a.at + 1)))
     (λ c. omega arith))

@@ -7,5 +7,5 @@ pub answered_spec : {M : Type 1} → statement M
 answered_spec =
     tie.close
     (tie.spec
-    (λ c. simp (eq-eqb _ _ c.if1.true))
-    (λ c. simp (ne_eqb _ _ c.if1.false)))
+    (λ c. simp (eq-eqb _ _ c.if-due-eq0.true))
+    (λ c. simp (ne_eqb _ _ c.if-due-eq0.false)))

@@ -13,10 +13,10 @@ use native.Mathlib.Omega.{arith}
 use Rattle.judge.proofs.same.Statement.{statement}
 use Rattle.judge.proofs.same.Tie as tie
 
-abbrev invariant_loop : tie.invariant_loop
+abbrev invariant_loop : tie.invariant-loop-k
 invariant_loop before cells all₀ k₀ all k = (k ≤ length before) × (all ≡ every k (λ j. eqb (get_or before j 0) (get_or cells j 0)))
 
-abbrev decreases_loop : tie.decreases_loop
+abbrev decreases_loop : tie.decreases-loop-k
 decreases_loop before cells all₀ k₀ all k = length before - k
 
 pub same_spec : {M : Type 1} → statement M
@@ -26,7 +26,7 @@ same_spec =
     (tie.spec
     invariant_loop
     decreases_loop
-    (λ c. simp (ne_eqb _ _ c.if1.true))
+    (λ c. simp (ne_eqb _ _ c.if-before-cells.true))
     (λ c. (omega arith, refl))
     (λ c. omega arith)
     (λ c. omega arith)
@@ -35,10 +35,10 @@ same_spec =
     (λ c. omega arith)
     (λ c. omega arith)
     (λ c.
-    let k = c.before.before.before.loop in
-    (omega arith, ap (λ (b : Bool). b && eqb (get_or c.before.before.before.before.before.args.before.now k.k 0) (get_or c.before.before.before.before.before.args.cells.now k.k 0)) k.invariant.1 ∙ sym (every_next k.k (λ j. eqb (get_or c.before.before.before.before.before.args.before.now j 0) (get_or c.before.before.before.before.before.args.cells.now j 0)))))
+    let k = c.loop-k in
+    (omega arith, ap (λ (b : Bool). b && eqb (get_or c.args.before.now k.k 0) (get_or c.args.cells.now k.k 0)) k.invariant.1 ∙ sym (every_next k.k (λ j. eqb (get_or c.args.before.now j 0) (get_or c.args.cells.now j 0)))))
     (λ c.
-    let a = c.before.before.before.args.before.now in
-    let b = c.before.before.before.args.cells.now in
-    let e : c.before.loop.k ≡ length a = le_antisymm c.before.loop.invariant.0 (omega arith) in
-    c.before.loop.invariant.1 ∙ ap (λ (n : ℕ). every n (λ j. eqb (get_or a j 0) (get_or b j 0))) e ∙ sym (simp (eq-eqb _ _ c.before.before.if1.false))))
+    let a = c.args.before.now in
+    let b = c.args.cells.now in
+    let e : c.loop-k.k ≡ length a = le_antisymm c.loop-k.invariant.0 (omega arith) in
+    c.loop-k.invariant.1 ∙ ap (λ (n : ℕ). every n (λ j. eqb (get_or a j 0) (get_or b j 0))) e ∙ sym (simp (eq-eqb _ _ c.if-before-cells.false))))

@@ -14,10 +14,10 @@ use Rattle.parts.specs.Hex.{is_hex, nibble_of}
 use Rattle.parts.proofs.all_hex.Statement.{statement}
 use Rattle.parts.proofs.all_hex.Tie as tie
 
-abbrev invariant_loop : tie.invariant_loop
+abbrev invariant_loop : tie.invariant-loop-i
 invariant_loop word i₀ i = (i ≤ length word) × (every i (λ p. is_hex (get_or word p 0)) ≡ true)
 
-abbrev decreases_loop : tie.decreases_loop
+abbrev decreases_loop : tie.decreases-loop-i
 decreases_loop word i₀ i = length word - i
 
 pub all_hex_spec : {M : Type 1} → statement M
@@ -31,16 +31,16 @@ all_hex_spec =
     (λ c. search rules)
     (λ c κs. search rules)
     (λ c.
-    let w = c.before.before.before.before.before.before.args.word.now in
-    let i = c.before.before.before.before.loop.i in
-    sym (every_not (length w) (λ p. is_hex (get_or w p 0)) i c.before.before.before.loop-test.true (le-ltb (nibble_of (get_or w i 0)) 16 (omega (arith, c.before.nibble.ensures)))))
+    let w = c.args.word.now in
+    let i = c.loop-i.i in
+    sym (every_not (length w) (λ p. is_hex (get_or w p 0)) i c.loop-i-test.true (le-ltb (nibble_of (get_or w i 0)) 16 (omega (arith, c.nibble.ensures)))))
     (λ c. search rules)
     (λ c. search rules)
     (λ c.
-    let w = c.before.before.before.before.before.before.args.word.now in
-    let l = c.before.before.before.before.loop in
-    (omega arith, every_next l.i (λ p. is_hex (get_or w p 0)) ∙ ap₂ ◌&&◌ l.invariant.1 (lt-ltb (nibble_of (get_or w l.i 0)) 16 (omega (arith, c.before.nibble.ensures)))))
+    let w = c.args.word.now in
+    let l = c.loop-i in
+    (omega arith, every_next l.i (λ p. is_hex (get_or w p 0)) ∙ ap₂ ◌&&◌ l.invariant.1 (lt-ltb (nibble_of (get_or w l.i 0)) 16 (omega (arith, c.nibble.ensures)))))
     (λ c.
-    let w = c.before.before.before.args.word.now in
-    let l = c.before.loop in
-    sym (ap (λ (j : ℕ). every j (λ p. is_hex (get_or w p 0))) (le_antisymm c.loop-test.false l.invariant.0) ∙ l.invariant.1)))
+    let w = c.args.word.now in
+    let l = c.loop-i in
+    sym (ap (λ (j : ℕ). every j (λ p. is_hex (get_or w p 0))) (le_antisymm c.loop-i-test.false l.invariant.0) ∙ l.invariant.1)))

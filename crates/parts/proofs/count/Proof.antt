@@ -2,7 +2,6 @@
 -- Assumes nothing.
 use borrow.Author.Rules.{rules}
 use lib.ListN.{length, drop}
-use mathlib.Core.Logic.{⊎_elim}
 use mathlib.Core.Path.{◌≡◌, ap}
 use native.Mathlib.Nat.{le_antisymm}
 use native.Mathlib.Omega.{arith}
@@ -11,11 +10,12 @@ use Rattle.parts.specs.Words.{words}
 use Rattle.parts.proofs.Words.{more_words, same_words, at_end}
 use Rattle.parts.proofs.count.Statement.{statement}
 use Rattle.parts.proofs.count.Tie as tie
+use Rattle.parts.proofs.count.Lts.{then-line-i-eq32, else-line-i-eq32}
 
-abbrev invariant_loop : tie.invariant_loop
+abbrev invariant_loop : tie.invariant-loop-i
 invariant_loop line n₀ i₀ n i = (i ≤ length line) × (n ≤ i + 1) × (n + length (words (drop i line)) ≡ length (words line) + 1)
 
-abbrev decreases_loop : tie.decreases_loop
+abbrev decreases_loop : tie.decreases-loop-i
 decreases_loop line n₀ i₀ n i = length line - i
 
 pub count_spec : {M : Type 1} → statement M
@@ -30,14 +30,14 @@ count_spec =
     (λ c. search rules)
     (λ c. search rules)
     (λ c.
-    let l = c.before.before.before.before.args.line.now in
-    let i = c.before.before.before.loop.i in
-    ⊎_elim
-    (λ w. (omega arith, omega arith, omega (arith, more_words l i c.before.before.loop-test.true w.0.taken)))
-    (λ w. (omega arith, omega arith, omega (arith, same_words l i c.before.before.loop-test.true w.0.left)))
-    c.if1.branch)
+    let l = c.args.line.now in
+    let i = c.loop-i.i in
+    elim c.if-line-i-eq32.branch [
+      then-line-i-eq32 w ↦ (omega arith, omega arith, omega (arith, more_words l i c.loop-i-test.true w.if-line-i-eq32.true))
+      | else-line-i-eq32 w ↦ (omega arith, omega arith, omega (arith, same_words l i c.loop-i-test.true w.if-line-i-eq32.false))
+    ])
     (λ c.
-    let l = c.before.before.args.line.now in
-    let i = c.before.loop.i in
-    let e : i ≡ length l = le_antisymm c.before.loop.invariant.0 c.loop-test.false in
+    let l = c.args.line.now in
+    let i = c.loop-i.i in
+    let e : i ≡ length l = le_antisymm c.loop-i.invariant.0 c.loop-i-test.false in
     omega (arith, ap length (at_end l i e))))

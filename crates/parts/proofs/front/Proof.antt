@@ -13,4 +13,4 @@ front_spec =
     (tie.spec
     (λ c. sym (length-take-le _ _ (omega arith)))
     (λ c. search rules)
-    (λ c. sym (take_all c.before.args.n c.before.args.bytes.now (omega arith))))
+    (λ c. sym (take_all c.args.n c.args.bytes.now (omega arith))))

@@ -13,17 +13,17 @@ unfolding is_digit more_of
 more_spec =
     tie.close
     (tie.spec
-    (λ c. simp (lt-leb 48 c.before.args.b c.if1.true))
-    (λ c. let b = c.before.before.args.b in simp (le-leb 48 b (omega arith), lt-leb b 57 (omega arith)))
+    (λ c. simp (lt-leb 48 c.args.b c.if-b-lt48.true))
+    (λ c. let b = c.args.b in simp (le-leb 48 b (omega arith), lt-leb b 57 (omega arith)))
     (λ c. search rules)
     (λ c. search rules)
     (λ c.
-    let n = c.before.before.before.args.n in
-    let b = c.before.before.before.args.b in
+    let n = c.args.n in
+    let b = c.args.b in
     simp (le-leb 48 b (omega arith), le-leb b 57 (omega arith), lt-leb (10 * n + (b - 48)) most (omega arith)))
     (λ c. search rules)
     (λ c. search rules)
     (λ c.
-    let n = c.before.before.before.args.n in
-    let b = c.before.before.before.args.b in
+    let n = c.args.n in
+    let b = c.args.b in
     simp (le-leb 48 b (omega arith), le-leb b 57 (omega arith), le-leb (10 * n + (b - 48)) most (omega arith))))

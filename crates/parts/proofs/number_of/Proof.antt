@@ -15,10 +15,10 @@ use Rattle.parts.proofs.Decimal.{Read, more_is, read_none, read_more, read_bad, 
 use Rattle.parts.proofs.number_of.Statement.{statement}
 use Rattle.parts.proofs.number_of.Tie as tie
 
-abbrev invariant_loop : tie.invariant_loop
+abbrev invariant_loop : tie.invariant-loop-i
 invariant_loop word n₀ i₀ n i = (i ≤ length word) × (n ≤ most) × (every i (λ p. is_digit (get_or word p 0)) ≡ true) × Read word i n
 
-abbrev decreases_loop : tie.decreases_loop
+abbrev decreases_loop : tie.decreases-loop-i
 decreases_loop word n₀ i₀ n i = length word - i
 
 pub number_of_spec : {M : Type 1} → statement M
@@ -28,27 +28,27 @@ number_of_spec =
     (tie.spec
     invariant_loop
     decreases_loop
-    (λ c. simp (le-ltb 0 (length c.before.before.args.word.now) (omega arith)))
+    (λ c. simp (le-ltb 0 (length c.args.word.now) (omega arith)))
     (λ c. (search rules, omega arith, refl, read_none _))
     (λ c. search rules)
     (λ c κs. search rules)
     (λ c. search rules)
     (λ c. search rules)
     (λ c.
-    let l = c.before.before.before.before.before.loop in
-    sym (read_bad c.before.before.before.before.before.before.before.before.args.word.now l.i l.n c.before.before.before.before.loop-test.true l.invariant.3 (sym c.before.before.more.ensures ∙ c.enum_told.given.1)))
+    let l = c.loop-i in
+    sym (read_bad c.args.word.now l.i l.n c.loop-i-test.true l.invariant.3 (sym c.more.ensures ∙ c.in-Bad.is)))
     (λ c. search rules)
     (λ c. search rules)
     (λ c.
-    let w = c.before.before.before.before.before.before.before.before.before.args.word.now in
-    let l = c.before.before.before.before.before.before.loop in
-    let m = more_is l.n (get_or w l.i 0) c.before.m.given.0.0 (sym c.before.before.before.more.ensures ∙ c.before.m.given.1) in (
+    let w = c.args.word.now in
+    let l = c.loop-i in
+    let m = more_is l.n (get_or w l.i 0) c.in-Is.m (sym c.more.ensures ∙ c.in-Is.is) in (
       omega arith,
       m.2,
       every_next l.i (λ p. is_digit (get_or w p 0)) ∙ ap₂ ◌&&◌ l.invariant.2 m.0,
-      rw m.1 (read_more w l.i l.n c.before.before.before.before.before.loop-test.true l.invariant.3),
+      rw m.1 (read_more w l.i l.n c.loop-i-test.true l.invariant.3),
     ))
     (λ c.
-    let w = c.before.before.before.before.args.word.now in
-    let l = c.before.loop in
-    sym (read_all w l.i l.n (le_antisymm l.invariant.0 c.loop-test.false) (omega arith) l.invariant.1 l.invariant.2 l.invariant.3)))
+    let w = c.args.word.now in
+    let l = c.loop-i in
+    sym (read_all w l.i l.n (le_antisymm l.invariant.0 c.loop-i-test.false) (omega arith) l.invariant.1 l.invariant.2 l.invariant.3)))

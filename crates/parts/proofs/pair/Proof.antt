@@ -13,7 +13,7 @@ pair_spec =
     tie.close
     (tie.spec
     (λ c. search rules)
-    (λ c. let h = hex_small _ c.before.requires.0 in let l = hex_small _ c.before.requires.1 in omega (arith, c.nibble.ensures))
+    (λ c. let h = hex_small _ c.requires.0 in let l = hex_small _ c.requires.1 in omega (arith, c.nibble.ensures))
     (λ c. search rules)
-    (λ c. let h = hex_small _ c.before.before.requires.0 in let l = hex_small _ c.before.before.requires.1 in omega (arith, c.before.nibble.ensures, c.nibble2.ensures))
-    (λ c. ap₂ (λ (h l : ℕ). 16 * h + l) c.before.nibble.ensures c.nibble2.ensures))
+    (λ c. let h = hex_small _ c.requires.0 in let l = hex_small _ c.requires.1 in omega (arith, c.nibble.ensures, c.nibble-2.ensures))
+    (λ c. ap₂ (λ (h l : ℕ). 16 * h + l) c.nibble.ensures c.nibble-2.ensures))

@@ -10,8 +10,8 @@ word_spec =
     tie.close
     (tie.spec
     (λ c κs. search rules)
-    (λ c κs. c.start.ensures.0)
+    (λ c κs. c.start-from.ensures.0)
     (λ c. search rules)
     (λ c. search rules)
     (λ c. search rules)
-    (λ c. c.before.end.ensures.2 ∙ c.before.before.start.ensures.1))
+    (λ c. c.end-to.ensures.2 ∙ c.start-from.ensures.1))

@@ -29,31 +29,31 @@ module _ (c : tie.Start) where
   i× : (k : ℕ) → k < 2 ^ 9 → to_z w32 (of_z w32 (pos k *ℤ c.args.di)) ≡ pos k *ℤ c.args.di
   i× k h = to_z-of_z (times_fits k c.args.di h c.requires.1)
 
-far : (c : tie.Else1) → lt_z c.before.args.dv (pos 1000) ≡ false
-far c = simp (v c.before) at c.if1.false
+far : (c : tie.Else-dv-lt1000) → lt_z c.before.args.dv (pos 1000) ≡ false
+far c = simp (v c.before) at c.if-dv-lt1000.false
 
-rises : (c : tie.Else2) → le_z c.before.before.args.di (pos 0) ≡ false
-rises c = simp (i c.before.before) at c.if2.false
+rises : (c : tie.Else-di-le0) → le_z c.before.before.args.di (pos 0) ≡ false
+rises c = simp (i c.before.before) at c.if-di-le0.false
 
-wide : (c : tie.Then3) → le_z (pos 500 *ℤ c.before.before.before.args.di) c.before.before.before.args.dv ≡ true
-wide c = let s = c.before.before.before in simp (v s, i s, i× s 500 (lit< tt)) at c.if3.true
+wide : (c : tie.Then-di-dv) → le_z (pos 500 *ℤ c.before.before.before.args.di) c.before.before.before.args.dv ≡ true
+wide c = let s = c.before.before.before in simp (v s, i s, i× s 500 (lit< tt)) at c.if-di-dv.true
 
-closes : (c : tie.Else3) → le_z (pos 500 *ℤ c.before.before.before.args.di) c.before.before.before.args.dv ≡ false
-closes c = let s = c.before.before.before in simp (v s, i s, i× s 500 (lit< tt)) at c.if3.false
+closes : (c : tie.Else-di-dv) → le_z (pos 500 *ℤ c.before.before.before.args.di) c.before.before.before.args.dv ≡ false
+closes c = let s = c.before.before.before in simp (v s, i s, i× s 500 (lit< tt)) at c.if-di-dv.false
 
-enough : (c : tie.Then4) → le_z (pos 19 *ℤ c.before.before.before.before.args.di) c.before.before.before.before.args.dv ≡ true
-enough c = let s = c.before.before.before.before in simp (v s, i s, i× s 19 (lit< tt)) at c.if4.true
+enough : (c : tie.Then-di-dv-2) → le_z (pos 19 *ℤ c.before.before.before.before.args.di) c.before.before.before.before.args.dv ≡ true
+enough c = let s = c.before.before.before.before in simp (v s, i s, i× s 19 (lit< tt)) at c.if-di-dv-2.true
 
-short : (c : tie.Else4) → le_z (pos 19 *ℤ c.before.before.before.before.args.di) c.before.before.before.before.args.dv ≡ false
-short c = let s = c.before.before.before.before in simp (v s, i s, i× s 19 (lit< tt)) at c.if4.false
+short : (c : tie.Else-di-dv-2) → le_z (pos 19 *ℤ c.before.before.before.before.args.di) c.before.before.before.before.args.dv ≡ false
+short c = let s = c.before.before.before.before in simp (v s, i s, i× s 19 (lit< tt)) at c.if-di-dv-2.false
 
 pub by_differences_spec : {M : Type 1} → statement M
 unfolding by_differences
 by_differences_spec =
     tie.close
     (tie.spec
-    (λ c. simp (simp (v c.before) at c.if1.true))
-    (λ c. simp (far c.before, simp (i c.before.before) at c.if2.true))
+    (λ c. simp (simp (v c.before) at c.if-dv-lt1000.true))
+    (λ c. simp (far c.before, simp (i c.before.before) at c.if-di-le0.true))
     (λ c. let s = c.before.before in simp (i s) (times_fits 500 s.args.di (lit< tt) s.requires.1))
     (λ c. simp (far c.before.before, rises c.before, wide c))
     (λ c. let s = c.before.before.before in simp (i s) (times_fits 19 s.args.di (lit< tt) s.requires.1))
@@ -61,8 +61,8 @@ by_differences_spec =
     (λ c. let s = c.before.before.before.before in simp (i s) (times_fits 53 s.args.di (lit< tt) s.requires.1))
     (λ c.
     let s = c.before.before.before.before.before in
-    simp (far c.before.before.before.before, rises c.before.before.before, closes c.before.before, enough c.before, simp (v s, i s, v×2 s, i× s 53 (lit< tt)) at c.if5.true))
+    simp (far c.before.before.before.before, rises c.before.before.before, closes c.before.before, enough c.before, simp (v s, i s, v×2 s, i× s 53 (lit< tt)) at c.if-dv-di.true))
     (λ c.
     let s = c.before.before.before.before.before in
-    simp (far c.before.before.before.before, rises c.before.before.before, closes c.before.before, enough c.before, simp (v s, i s, v×2 s, i× s 53 (lit< tt)) at c.if5.false))
+    simp (far c.before.before.before.before, rises c.before.before.before, closes c.before.before, enough c.before, simp (v s, i s, v×2 s, i× s 53 (lit< tt)) at c.if-dv-di.false))
     (λ c. simp (far c.before.before.before, rises c.before.before, closes c.before, short c)))

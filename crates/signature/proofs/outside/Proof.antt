@@ -7,4 +7,4 @@ use Rattle.signature.proofs.outside.Tie as tie
 
 pub outside_spec : {M : Type 1} → statement M
 unfolding outside
-outside_spec = tie.close (tie.spec (λ c. simp (lt-ltb _ _ c.if1.true)) (λ c. simp (le-ltb _ _ c.if1.false)))
+outside_spec = tie.close (tie.spec (λ c. simp (lt-ltb _ _ c.if-v-lt2800.true)) (λ c. simp (le-ltb _ _ c.if-v-lt2800.false)))

@@ -13,18 +13,18 @@ signature_of_spec =
     tie.close
     (tie.spec
     (λ c κs. search rules)
-    (λ c. simp (sym c.before.outside.ensures ∙ c.if1.true))
+    (λ c. simp (sym c.before.outside.ensures ∙ c.if-outside.true))
     (λ c κs. search rules)
-    (λ c. simp (sym c.before.before.before.outside.ensures ∙ c.before.before.if1.false, sym c.before.outside2.ensures ∙ c.if2.true))
+    (λ c. simp (sym c.before.before.before.outside.ensures ∙ c.before.before.if-outside.false, sym c.before.outside-2.ensures ∙ c.if-outside-2.true))
     (λ c κs. search rules)
     (λ c κs. search rules)
-    (λ c κs. simp (back c.before.difference.result c.before.difference.type-inv, back c.difference2.result c.difference2.type-inv) (c.before.difference.ensures.1, c.difference2.ensures.1))
+    (λ c κs. simp (back c.before.difference.result c.before.difference.type_inv, back c.difference-2.result c.difference-2.type_inv) (c.before.difference.ensures.1, c.difference-2.ensures.1))
     (λ c.
     let v = c.before.before.difference in
-    let i = c.before.difference2 in
+    let i = c.before.difference-2 in
     c.by_differences.ensures
-    ∙ ap₂ by_differences (back v.result v.type-inv ∙ v.ensures.0) (back i.result i.type-inv ∙ i.ensures.0)
+    ∙ ap₂ by_differences (back v.result v.type_inv ∙ v.ensures.0) (back i.result i.type_inv ∙ i.ensures.0)
     ∙ simp (
-      sym c.before.before.before.before.before.before.outside.ensures ∙ c.before.before.before.before.before.if1.false,
-      sym c.before.before.before.before.outside2.ensures ∙ c.before.before.before.if2.false,
+      sym c.before.before.before.before.before.before.outside.ensures ∙ c.before.before.before.before.before.if-outside.false,
+      sym c.before.before.before.before.outside-2.ensures ∙ c.before.before.before.if-outside-2.false,
     )))

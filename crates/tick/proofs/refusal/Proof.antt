@@ -17,7 +17,7 @@ use Rattle.passes.specs.Passes.{refusal_of}
 use Rattle.tick.proofs.refusal.Statement.{statement}
 use Rattle.tick.proofs.refusal.Tie as tie
 
--- cells without a well_made_lem head are not well_made_lem
+-- cells without a well-made head are not well-made
 no_head : (l : List ℕ) → head_cells l ≡ false → well_cells l ≡ false
 no_head l e = well_cells_lem l ∙ ap (λ (b : Bool). b && every (count_cell l) (port_fine l)) e
 

@@ -1,4 +1,4 @@
--- `power_on` is `power_on_rule`: the no_load count, after all counters have advanced, says which case holds unless a fault does.
+-- `power_on` is `power_on_rule`: the no-load count, after all counters have advanced, says which case holds unless a fault does.
 -- Assumes nothing.
 use native.Mathlib.Omega.{arith}
 use borrow.Author.Rules.{rules}

@@ -9,4 +9,4 @@ use Rattle.power.proofs.Power.supply.Tie as tie
 pub supply_spec : {M : Type 1} → statement M
 unfolding supply_of
 supply_spec =
-    tie.close (tie.spec (λ c. search rules) (λ c. search rules) (λ c. simp (le-leb _ _ c.if1.true)) (λ c. simp (lt-leb _ _ c.if1.false)))
+    tie.close (tie.spec (λ c. search rules) (λ c. search rules) (λ c. simp (le-leb _ _ c.if-figure-highest.true)) (λ c. simp (lt-leb _ _ c.if-figure-highest.false)))
