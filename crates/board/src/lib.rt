@@ -9,7 +9,7 @@ use class::{ClassReading, class_of_two};
 use four_pair::class_of_three;
 use power::Power;
 
-#[derive(Drop)]
+#[derive(Clone, Copy)]
 pub enum Board {
     // The access switch of document 01: each port feeds one pairset.
     Access,

@@ -7,14 +7,14 @@ ghost use Rattle.class.specs.Class.{class_of, is_four, alone, class_of_two, budg
 use power::Power;
 
 // What one current shows.
-#[derive(Drop)]
+#[derive(Clone, Copy)]
 pub enum Class {
     Is(u8),
     Failure,
 }
 
 // What the class events show together: a class, or which failure.
-#[derive(Drop)]
+#[derive(Clone, Copy)]
 pub enum Events {
     Is(u8),
     OverCurrent,
@@ -22,7 +22,7 @@ pub enum Events {
 }
 
 // The reading of a port's two currents, and how many of them it used.
-#[derive(Drop)]
+#[derive(Clone, Copy)]
 pub struct ClassReading {
     pub shown: Events,
     pub used: u8,

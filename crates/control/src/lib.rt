@@ -5,7 +5,7 @@ ghost use Rattle.std.specs.Prelude.{◌≡◌};
 ghost use Rattle.control.specs.Control.{enable_of, pair_of, priority_of, refused};
 
 // Document 01, "1:0 enable": codes 00, 01, 10 and 11.
-#[derive(Drop)]
+#[derive(Clone, Copy)]
 pub enum Enable {
     Disabled,
     Enabled,
@@ -14,7 +14,7 @@ pub enum Enable {
 }
 
 // Document 01, "3:2 pair control": codes 00, 01, 10 and 11. This board reserves the first and the last.
-#[derive(Drop)]
+#[derive(Clone, Copy)]
 pub enum Pair {
     Neither,
     A,
@@ -23,7 +23,7 @@ pub enum Pair {
 }
 
 // Document 01, "5:4 priority": codes 00, 01, 10 and 11.
-#[derive(Drop)]
+#[derive(Clone, Copy)]
 pub enum Priority {
     Unknown,
     Critical,
@@ -31,7 +31,7 @@ pub enum Priority {
     Low,
 }
 
-#[derive(Drop)]
+#[derive(Clone, Copy)]
 pub struct Control {
     pub enable: Enable,
     pub pair: Pair,

@@ -7,7 +7,7 @@ ghost use Rattle.fields.specs.Fields.{too_high, bad_values};
 use sizes::MOST_VALUE;
 
 // Document 01: "three octets kept as they are (support, pair, class)."
-#[derive(Drop)]
+#[derive(Clone, Copy)]
 pub struct Fields {
     pub support: u8,
     pub pair: u8,
@@ -16,14 +16,14 @@ pub struct Fields {
 }
 
 // Document 01: "Length 7 ends there. Length 12 adds one octet .. and the requested and allocated values".
-#[derive(Drop)]
+#[derive(Clone, Copy)]
 pub enum Form {
     Short,
     Long(Added),
 }
 
 // As wide as a caller's numbers may be: the writer refuses those that are too large, and never cuts one.
-#[derive(Drop)]
+#[derive(Clone, Copy)]
 pub struct Added {
     pub kind: u64,
     pub source: u64,

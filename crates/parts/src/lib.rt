@@ -74,7 +74,7 @@ pub fn word(line: &[u8], k: usize) -> &[u8]
     &line[from..to]
 }
 
-#[derive(Drop)]
+#[derive(Clone, Copy)]
 pub enum Number {
     Is(u64),
     Bad,

@@ -2,7 +2,7 @@
 use power::Power;
 use status::Latches;
 
-#[derive(Drop)]
+#[derive(Clone, Copy)]
 pub enum State {
     Disabled,
     Idle,
@@ -17,7 +17,7 @@ pub enum State {
 }
 
 // Ticks counted. A counter runs only in the states that document 01 names for it.
-#[derive(Drop)]
+#[derive(Clone, Copy)]
 pub struct Counts {
     pub detection: u16,
     pub backoff: u16,
@@ -28,7 +28,7 @@ pub struct Counts {
     pub no_load: u16,
 }
 
-#[derive(Drop)]
+#[derive(Clone, Copy)]
 pub struct Port {
     pub state: State,
     pub class: u8,
@@ -39,7 +39,7 @@ pub struct Port {
     pub counts: Counts,
 }
 
-#[derive(Drop)]
+#[derive(Clone, Copy)]
 pub enum Detection {
     NotDone,
     Valid,
@@ -47,7 +47,7 @@ pub enum Detection {
     Open,
 }
 
-#[derive(Drop)]
+#[derive(Clone, Copy)]
 pub enum Classing {
     NotDone,
     OverCurrent,
@@ -57,7 +57,7 @@ pub enum Classing {
 }
 
 // What a tick is told of a port. Boards differ in their samples; the port's move knows only this.
-#[derive(Drop)]
+#[derive(Clone, Copy)]
 pub struct Reading {
     pub detection: Detection,
     pub class: Classing,
@@ -68,7 +68,7 @@ pub struct Reading {
 }
 
 // A port after its own move, before the supply is shared.
-#[derive(Drop)]
+#[derive(Clone, Copy)]
 pub struct Moved {
     pub port: Port,
     // What this move latched, also where the latch was set already.

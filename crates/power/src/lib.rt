@@ -4,11 +4,11 @@
 ghost use Rattle.std.specs.Prelude.{◌≡◌};
 ghost use Rattle.power.specs.Power.{at_most, same, supply_of, plus, join, fits};
 
-#[derive(Drop)]
+#[derive(Clone, Copy)]
 pub struct Power(pub u16);
 
 // What a supply figure handed in by a caller is.
-#[derive(Drop)]
+#[derive(Clone, Copy)]
 pub enum Supply {
     Is(Power),
     // Refusal 4.
@@ -48,7 +48,7 @@ impl Power {
 }
 
 // Powers added up. It is wider than a power, so that the demands of a whole table never reach its end.
-#[derive(Drop)]
+#[derive(Clone, Copy)]
 pub struct Sum(pub u32);
 
 impl Sum {

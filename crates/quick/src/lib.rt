@@ -14,7 +14,7 @@ use port::form::Counts;
 use sizes::{CELLS, PORTS, PORTS_16};
 
 // What a reading shows before the signature and the class are worked out.
-#[derive(Drop)]
+#[derive(Clone, Copy)]
 pub struct FlagsShown {
     pub detected: bool,
     pub classed: bool,
@@ -24,7 +24,7 @@ pub struct FlagsShown {
     pub load: bool,
 }
 
-#[derive(Drop)]
+#[derive(Clone, Copy)]
 pub enum QuickAnswer {
     // The move sets the counters to these, and changes nothing else.
     Counted(Counts),
@@ -33,7 +33,7 @@ pub enum QuickAnswer {
 }
 
 // A port's counters after the pass, and a mark, all bits of it, where only the whole step tells.
-#[derive(Drop)]
+#[derive(Clone, Copy)]
 pub struct Look {
     pub counts: Counts,
     pub mark: u16,

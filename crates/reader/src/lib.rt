@@ -9,7 +9,7 @@ use fields::{Added, Fields, Form, bad_values};
 use header::{is_power, length_at, word_at};
 use sizes::refusals;
 
-#[derive(Drop)]
+#[derive(Clone, Copy)]
 pub enum ReadAnswer {
     Is(Fields),
     Refused(u8),

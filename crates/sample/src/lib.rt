@@ -8,7 +8,7 @@ ghost use Rattle.sample.specs.Sample.{sample_of, flags_of};
 use sizes::SAMPLE;
 
 // Voltages in mV, currents in µA.
-#[derive(Drop)]
+#[derive(Clone, Copy)]
 pub struct Sample {
     pub v1: u16,
     pub v2: u16,
@@ -19,7 +19,7 @@ pub struct Sample {
     pub flags: u16,
 }
 
-#[derive(Drop)]
+#[derive(Clone, Copy)]
 pub enum Sampled {
     Is(Sample),
     // The block ends before the port's fourteen bytes do.
@@ -52,7 +52,7 @@ pub fn sample_of(block: &[u8], port: usize) -> Sampled
     }
 }
 
-#[derive(Drop)]
+#[derive(Clone, Copy)]
 pub struct Flags {
     pub detection_done: bool,
     pub class_done: bool,

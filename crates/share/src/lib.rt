@@ -16,7 +16,7 @@ use sizes::PORTS;
 pub const NO_CLAIM: u8 = 6;
 
 // For each place its rank, of which 0 comes first, and its demand. A place with another rank than 0 to 5 claims nothing.
-#[derive(Drop)]
+#[derive(Clone, Copy)]
 pub struct Claims {
     pub ranks: [u8; PORTS],
     pub demands: [Power; PORTS],

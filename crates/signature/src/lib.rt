@@ -5,7 +5,7 @@ ghost use Rattle.std.specs.Prelude.{◌≡◌, ◌<◌, ◌^◌, pos, ◌-ℤ◌
 ghost use Rattle.std.specs.Int.Signed.{mag};
 ghost use Rattle.signature.specs.Signature.{outside, by_differences, signature_of};
 
-#[derive(Drop)]
+#[derive(Clone, Copy)]
 pub enum Signature {
     Valid,
     Invalid,

@@ -5,7 +5,7 @@ ghost use Rattle.std.specs.Prelude.{◌≡◌, ◌*◌, ◌<◌, ◌≤◌};
 ghost use Rattle.lists.specs.Bits.{one};
 ghost use Rattle.status.specs.Status.{join, condition_code, status_word};
 
-#[derive(Drop)]
+#[derive(Clone, Copy)]
 pub struct Latches {
     pub disagree: bool,
     pub over_current: bool,
@@ -47,7 +47,7 @@ impl Latches {
 }
 
 // What a port is doing, as the status word tells it.
-#[derive(Drop)]
+#[derive(Clone, Copy)]
 pub enum Condition {
     Disabled,
     Searching,

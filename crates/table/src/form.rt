@@ -12,7 +12,7 @@ pub struct Table {
     pub supply: Power,
 }
 
-#[derive(Drop)]
+#[derive(Clone, Copy)]
 pub enum Answer {
     Done,
     Refused(u8),
@@ -24,7 +24,7 @@ pub struct Replied {
     pub answer: Answer,
 }
 
-#[derive(Drop)]
+#[derive(Clone, Copy)]
 pub enum Status {
     Word(u16),
     Refused(u8),
@@ -36,7 +36,7 @@ pub struct StatusRead {
     pub answer: Status,
 }
 
-#[derive(Drop)]
+#[derive(Clone, Copy)]
 pub enum Closed {
     // The closed ports on alternative A, those on alternative B, and how many they are.
     Ports(u64, u64, u32),

@@ -2,7 +2,7 @@
 -- Assumes nothing.
 use Prim.Native.Nat.{ℕ, suc, ◌+◌, ◌-◌, ◌≤◌, ◌<◌}
 use mathlib.Core.Path.{◌≡◌, refl, sym, ◌∙◌, ap, ap₂}
-use mathlib.Core.List.{List, [], ◌∷◌, ◌++◌, append_assoc, append_nil}
+use mathlib.Core.List.{List, [], ◌∷◌, ◌++◌, append_assoc, append-nil}
 use mathlib.Core.Logic.{⊎_elim}
 use native.Mathlib.Omega.{arith}
 use native.Mathlib.Numerals.{add-one}
@@ -23,7 +23,7 @@ module _ (room : List ℕ) (at : ℕ) (h : length room ≤ at) where
       let z : length room - at ≡ 0 = omega arith in
       ap₂ ◌++◌ (take_all at room h)
       (ap₂ ◌++◌ (ap (λ (k : ℕ). take k s) z) (drop_of_length-le room {i = at + length s} (omega arith)))
-      ∙ append_nil room
+      ∙ append-nil room
 
   full_past : (s : List ℕ) → past room at s ≡ at
   unfolding past

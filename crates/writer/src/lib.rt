@@ -9,7 +9,7 @@ ghost use Rattle.writer.specs.Write.{bad_codes, added_bytes, head_bytes, written
 use fields::{Added, Fields, Form, bad_values};
 use sizes::refusals;
 
-#[derive(Drop)]
+#[derive(Clone, Copy)]
 pub enum Written {
     // So many bytes from the room's start on are the TLV.
     Is(usize),

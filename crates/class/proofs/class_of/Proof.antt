@@ -20,6 +20,7 @@ use Rattle.class.specs.declared.Class.{Class}
 use Rattle.class.specs.declared.Class.TheVariants.{Is, Failure}
 use Rattle.class.proofs.class_of.Statement.{statement}
 use Rattle.class.proofs.class_of.Tie as tie
+use Rattle.class.proofs.class_of.Lts.{then-current-k, else-current-k}
 
 -- the code's table
 abbrev limits : List ℕ
@@ -88,10 +89,10 @@ not_past_next class k i w l =
     let next : (e : class ≡ k) → i ≤ limit class = λ e. rw e l in
     (omega (arith, w.0), w.1, λ h. ⊎_elim next w.2 (eq-or-lt_of_le {n = class} {m = k} w.0))
 
-abbrev invariant_loop : tie.invariant_loop
+abbrev invariant_loop : tie.invariant-loop-k
 invariant_loop current class₀ k₀ class k = (k ≤ 5) × (Walked class k current)
 
-abbrev decreases_loop : tie.decreases_loop
+abbrev decreases_loop : tie.decreases-loop-k
 decreases_loop current class₀ k₀ class k = 5 - k
 
 pub class_of_spec : {M : Type 1} → statement M
@@ -108,21 +109,21 @@ class_of_spec =
     (λ c. omega arith)
     (λ c. omega arith)
     (λ c.
-    let l = c.before.before.loop in
-    let i = c.before.before.before.args.current in
+    let l = c.loop-k in
+    let i = c.args.current in
     let Next : ℕ → Type 0 = λ class. Walked class (l.k + 1) i in (
       omega arith,
-      ⊎_elim
-          (λ w. subst Next (sym w.1) (past_next l.k i w.0.taken))
-          (λ w. subst Next (sym w.1) (not_past_next l.class l.k i l.invariant.1 w.0.left))
-          c.if1.branch,
+      elim c.if-current-k.branch [
+        | then-current-k w ↦ subst Next (sym w.class-is) (past_next l.k i w.if-current-k.true)
+        | else-current-k w ↦ subst Next (sym w.class-is) (not_past_next l.class l.k i l.invariant.1 w.if-current-k.false)
+      ],
     ))
     (λ c.
-    let l = c.before.before.loop in
+    let l = c.loop-k in
     let e : l.class ≡ 5 = omega arith in
     past_all _ (rw e at l.invariant.1.1))
     (λ c.
-    let l = c.before.before.loop in
+    let l = c.loop-k in
     let e : l.k ≡ 5 = le_antisymm l.invariant.0 (omega arith) in
-    let h : l.class < 5 = omega (arith, l.invariant.1.0, c.if2.false) in
+    let h : l.class < 5 = omega (arith, l.invariant.1.0, c.if-class-eq5.false) in
     up_to_limit l.class _ h l.invariant.1.1 (l.invariant.1.2 (omega (arith, h, e)))))

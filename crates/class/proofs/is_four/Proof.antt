@@ -7,4 +7,4 @@ use Rattle.class.proofs.is_four.Tie as tie
 
 pub is_four_spec : {M : Type 1} → statement M
 unfolding is_four
-is_four_spec = tie.close (tie.spec (λ c. search rules) (λ c. search rules) (λ c. simp c.before.class.given.1) (λ c. simp c.enum_told.given.1))
+is_four_spec = tie.close (tie.spec (λ c. search rules) (λ c. search rules) (λ c. simp c.in-Is.is) (λ c. simp c.in-Failure.is))

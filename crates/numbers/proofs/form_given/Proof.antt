@@ -12,7 +12,7 @@ form_given_spec =
     tie.close
     (tie.spec
     (λ c. search rules)
-    (λ c. simp (eq-eqb _ _ c.if1.true))
+    (λ c. simp (eq-eqb _ _ c.if-numbers-eq7.true))
     (λ c. search rules)
     (λ c κs. search rules)
     (λ c. search rules)
@@ -23,4 +23,4 @@ form_given_spec =
     (λ c κs. search rules)
     (λ c. search rules)
     (λ c κs. search rules)
-    (λ c. simp (ne_eqb _ _ c.before.before.before.before.before.before.before.before.before.before.if1.false, c.before.before.before.before.before.before.before.before.wide.ensures, c.before.before.before.before.before.before.wide2.ensures, c.before.before.before.before.wide3.ensures, c.before.before.wide4.ensures, c.wide5.ensures)))
+    (λ c. simp (ne_eqb _ _ c.if-numbers-eq7.false, c.wide.ensures, c.wide-2.ensures, c.wide-3.ensures, c.wide-4.ensures, c.wide-5.ensures)))

@@ -10,5 +10,5 @@ unfolding no_form
 no_form_spec =
     tie.close
     (tie.spec
-    (λ c. simp (eq-eqb _ _ c.if1.true))
-    (λ c. simp (ne_eqb _ _ c.if1.false)))
+    (λ c. simp (eq-eqb _ _ c.if-form-eq7.true))
+    (λ c. simp (ne_eqb _ _ c.if-form-eq7.false)))

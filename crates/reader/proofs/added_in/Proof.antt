@@ -14,9 +14,9 @@ added_in_spec =
     tie.close
     (tie.spec
     (λ c. search rules)
-    (λ c. omega (arith, c.shared-slice-known2.given 9))
+    (λ c. omega (arith, c.shared_slice_known-2-1.given 9))
     (λ c κs. search rules)
     (λ c. search rules)
     (λ c κs. search rules)
     (λ c. search rules)
-    (λ c. simp (div-one, c.before.word_at.ensures, c.word_at2.ensures)))
+    (λ c. simp (div-one, c.word_at.ensures, c.word_at-2.ensures)))

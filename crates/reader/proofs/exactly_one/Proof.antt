@@ -16,25 +16,25 @@ exactly_one_spec =
     (tie.spec
     (λ c κs. omega arith)
     (λ c. search rules)
-    (λ c. simp (← c.before.length_at.ensures.0, ne_eqb _ _ c.if1.true))
+    (λ c. simp (← c.length_at-length.ensures.0, ne_eqb _ _ c.if-bytes-length.true))
     (λ c κs. omega arith)
     (λ c.
     simp (
-      ← c.before.before.before.length_at.ensures.0,
-      eq-eqb _ _ c.before.before.if1.false,
-      sym c.before.is_power.ensures ∙ not-true _ c.if2.true,
+      ← c.length_at-length.ensures.0,
+      eq-eqb _ _ c.if-bytes-length.false,
+      sym c.is_power.ensures ∙ c.if-not-is_power.true,
     ))
     (λ c.
     simp (
-      ← c.before.before.before.before.length_at.ensures.0,
-      eq-eqb _ _ c.before.before.before.if1.false,
-      sym c.before.before.is_power.ensures ∙ not-false _ c.before.if2.false,
-      eq-eqb _ 7 c.if3.true,
+      ← c.length_at-length.ensures.0,
+      eq-eqb _ _ c.if-bytes-length.false,
+      sym c.is_power.ensures ∙ c.if-not-is_power.false,
+      eq-eqb _ 7 c.if-length-eq7.true,
     ))
     (λ c.
     simp (
-      ← c.before.before.before.before.length_at.ensures.0,
-      eq-eqb _ _ c.before.before.before.if1.false,
-      sym c.before.before.is_power.ensures ∙ not-false _ c.before.if2.false,
-      ne_eqb _ 7 c.if3.false,
+      ← c.length_at-length.ensures.0,
+      eq-eqb _ _ c.if-bytes-length.false,
+      sym c.is_power.ensures ∙ c.if-not-is_power.false,
+      ne_eqb _ 7 c.if-length-eq7.false,
     )))

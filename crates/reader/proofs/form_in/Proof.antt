@@ -13,7 +13,7 @@ unfolding form_in
 form_in_spec =
     tie.close
     (tie.spec
-    (λ c κs. omega (arith, three _ c.before.requires))
-    (λ c. simp (← c.before.length_at.ensures.0, eq-eqb _ 7 c.if1.true))
-    (λ c κs. fourteen c.before.before.before.args.bytes.now c.before.before.before.requires (λ e. c.if1.false (c.before.length_at.ensures.0 ∙ e)))
-    (λ c. simp (← c.before.before.length_at.ensures.0, ne_eqb _ 7 c.before.if1.false, c.added_in.ensures)))
+    (λ c κs. omega (arith, three _ c.requires))
+    (λ c. simp (← c.length_at.ensures.0, eq-eqb _ 7 c.if-length_at-eq7.true))
+    (λ c κs. fourteen c.args.bytes.now c.requires (λ e. c.if-length_at-eq7.false (c.length_at.ensures.0 ∙ e)))
+    (λ c. simp (← c.length_at.ensures.0, ne_eqb _ 7 c.if-length_at-eq7.false, c.added_in.ensures)))

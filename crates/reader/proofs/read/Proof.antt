@@ -12,33 +12,33 @@ use Rattle.reader.proofs.ExactlyOne.{three}
 use Rattle.reader.proofs.read.Statement.{statement}
 use Rattle.reader.proofs.read.Tie as tie
 
-whole : (c : tie.Else2) → cut c.before.before.before.before.args.bytes.now ≡ false
+whole : (c : tie.Else-bytes-length_at) → cut c.args.bytes.now ≡ false
 unfolding cut size_at
-whole c = simp (le-ltb _ _ c.before.before.if1.false, ← c.before.length_at.ensures.0, le-ltb _ _ c.if2.false)
+whole c = simp (le-ltb _ _ c.if-bytes-lt2.false, ← c.length_at.ensures.0, le-ltb _ _ c.if-bytes-length_at.false)
 
-one : (c : tie.Else3) → exactly_one c.before.before.before.before.before.before.args.bytes.now ≡ true
-one c = sym c.before.exactly_one.ensures ∙ not-false _ c.if3.false
+one : (c : tie.Else-not-exactly_one) → exactly_one c.args.bytes.now ≡ true
+one c = sym c.exactly_one.ensures ∙ c.if-not-exactly_one.false
 
-good : (c : tie.Else4) → bad_values (form_in c.before.before.before.before.before.before.before.before.before.args.bytes.now) ≡ false
-good c = ap bad_values (sym c.before.before.form_in.ensures) ∙ sym c.before.bad_values.ensures ∙ c.if4.false
+good : (c : tie.Else-bad_values) → bad_values (form_in c.args.bytes.now) ≡ false
+good c = ap bad_values (sym c.form_in-form.ensures) ∙ sym c.bad_values.ensures ∙ c.if-bad_values.false
 
 pub read_spec : {M : Type 1} → statement M
 unfolding read_of fields_in cut size_at
 read_spec =
     tie.close
     (tie.spec
-    (λ c. simp (lt-ltb _ _ c.if1.true))
+    (λ c. simp (lt-ltb _ _ c.if-bytes-lt2.true))
     (λ c κs. omega arith)
     (λ c. search rules)
-    (λ c. simp (le-ltb _ _ c.before.before.if1.false, ← c.before.length_at.ensures.0, lt-ltb _ _ c.if2.true))
-    (λ c κs. omega (arith, c.before.length_at.ensures.0))
-    (λ c. simp (whole c.before.before, sym c.before.exactly_one.ensures ∙ not-true _ c.if3.true))
+    (λ c. simp (le-ltb _ _ c.if-bytes-lt2.false, ← c.length_at.ensures.0, lt-ltb _ _ c.if-bytes-length_at.true))
+    (λ c κs. omega (arith, c.length_at.ensures.0))
+    (λ c. simp (whole c.before.before, sym c.exactly_one.ensures ∙ c.if-not-exactly_one.true))
     (λ c κs. one c)
     (λ c κs. search rules)
-    (λ c. simp (whole c.before.before.before.before.before, one c.before.before.before, ← c.before.before.form_in.ensures, ← c.before.bad_values.ensures, c.if4.true))
+    (λ c. simp (whole c.before.before.before.before.before, one c.before.before.before, ← c.form_in-form.ensures, ← c.bad_values.ensures, c.if-bad_values.true))
     (λ c. omega (arith, three _ (one c.before.before.before.before)))
     (λ c. omega (arith, three _ (one c.before.before.before.before.before)))
     (λ c. omega (arith, three _ (one c.before.before.before.before.before.before)))
     (λ c.
     let e = c.before.before.before in
-    simp (whole e.before.before.before.before.before, one e.before.before.before, good e, ← e.before.before.form_in.ensures)))
+    simp (whole e.before.before.before.before.before, one e.before.before.before, good e, ← e.form_in-form.ensures)))

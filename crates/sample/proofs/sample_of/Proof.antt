@@ -27,13 +27,13 @@ sample_of_spec =
     (λ c κs. search rules)
     (λ c.
     simp (
-      lt-ltb _ _ c.before.before.before.before.before.before.before.if1.true,
-      c.before.before.before.before.before.before.word_at.ensures,
-      c.before.before.before.before.before.word_at2.ensures,
-      c.before.before.before.before.word_at3.ensures,
-      c.before.before.before.word_at4.ensures,
-      c.before.before.word_at5.ensures,
-      c.before.word_at6.ensures,
-      c.word_at7.ensures,
+      lt-ltb _ _ c.if-port-block.true,
+      c.word_at.ensures,
+      c.word_at-then-port-block.ensures,
+      c.word_at-then-port-block-2.ensures,
+      c.word_at-then-port-block-3.ensures,
+      c.word_at-then-port-block-4.ensures,
+      c.word_at-then-port-block-5.ensures,
+      c.word_at-then-port-block-6.ensures,
     ))
-    (λ c. simp (le-ltb _ _ c.if1.false)))
+    (λ c. simp (le-ltb _ _ c.if-port-block.false)))

@@ -10,10 +10,10 @@ use Rattle.share.specs.Given.{demand_of}
 use Rattle.share.proofs.all_told.Statement.{statement}
 use Rattle.share.proofs.all_told.Tie as tie
 
-abbrev invariant_loop : tie.invariant_loop
+abbrev invariant_loop : tie.invariant-loop-p
 invariant_loop claims p₀ p = (p ≤ most_ports) × ((q : ℕ) → q < p → demand_of claims q < 2 ^ 16)
 
-abbrev decreases_loop : tie.decreases_loop
+abbrev decreases_loop : tie.decreases-loop-p
 decreases_loop claims p₀ p = most_ports - p
 
 pub all_told_spec : {M : Type 1} → statement M
@@ -29,5 +29,5 @@ all_told_spec =
     (λ c κs. search rules)
     (λ c. search rules)
     (λ c. search rules)
-    (λ c. (omega arith, below_more _ _ c.before.before.before.loop.invariant.1 c.told.ensures))
-    (λ c. λ q l. c.before.loop.invariant.1 q (omega arith)))
+    (λ c. (omega arith, below_more _ _ c.loop-p.invariant.1 c.told.ensures))
+    (λ c. λ q l. c.loop-p.invariant.1 q (omega arith)))

@@ -18,34 +18,34 @@ use Rattle.share.proofs.Sums.{in_line, line_starts, line_more, more_here, more_a
 use Rattle.share.proofs.in_turn.Statement.{statement}
 use Rattle.share.proofs.in_turn.Tie as tie
 
-abbrev invariant_loop : tie.invariant_loop
+abbrev invariant_loop : tie.invariant-loop-p
 invariant_loop supply all sums₀ kept₀ p₀ sums kept p =
     (p ≤ most_ports)
     × ((sums ≡ tabulate 7 (λ k. sum_of (in_line (rank_of all) (demand_of all) p k)))
     × Filled false (keeps most_ports (rank_of all) (demand_of all) supply.0) kept₀ p kept)
 
-abbrev decreases_loop : tie.decreases_loop
+abbrev decreases_loop : tie.decreases-loop-p
 decreases_loop supply all sums₀ kept₀ p₀ sums kept p = most_ports - p
 
-loop_holds : tie.Need-loop-init invariant_loop decreases_loop
+loop_holds : tie.Need-loop-p-init invariant_loop decreases_loop
 loop_holds c =
-    let all = c.before.before.args.t1 in (
+    let all = c.args.claims in (
       omega arith,
       (
-        c.starts.ensures ∙ line_starts (rank_of all) (demand_of all) c.before.before.requires c.before.rank_sums.result c.before.rank_sums.ensures,
+        c.starts-sums.ensures ∙ line_starts (rank_of all) (demand_of all) c.requires c.rank_sums.result c.rank_sums.ensures,
         filled_none _ _ _,
       ),
     )
 
-loop_again : tie.Need-loop-preserved invariant_loop decreases_loop
+loop_again : tie.Need-loop-p-preserved invariant_loop decreases_loop
 unfolding rank_of demand_of
 loop_again c =
-    let at = c.before.before.before.before.before.before.before.loop in
+    let at = c.loop-p in
     let start = c.before.before.before.before.before.before.before.before.before.before in
-    let all = start.args.t1 in
+    let all = start.args.claims in
     let line = in_line (rank_of all) (demand_of all) in
     let small : Small (demand_of all) = start.requires in
-    let slot = c.before.before.before.slot in
+    let slot = c.slot-k in
     let d = get_or all.demands at.p zero_power in
     let l : at.p < most_ports = omega arith in
     let below : line at.p slot.result + d.0 < 2 ^ 32 =
@@ -57,13 +57,13 @@ loop_again c =
     ) in
     let step : (j : ℕ) → j < 7 → line (at.p + 1) j ≡ line at.p j + cond (eqb slot.result j) d.0 0 =
     λ j o. line_more (rank_of all) (demand_of all) at.p slot.result j slot.ensures.0 in
-    let here : c.before.plus.result ≡ sum_of (line (at.p + 1) (slot_of (rank_of all at.p))) =
-    c.before.plus.ensures
+    let here : c.plus-sum.result ≡ sum_of (line (at.p + 1) (slot_of (rank_of all at.p))) =
+    c.plus-sum.ensures
     ∙ more_here 7 (line at.p) (line (at.p + 1)) slot.result d slot.ensures.1 below step at.sums at.invariant.1.0
     ∙ ap (λ k. sum_of (line (at.p + 1) k)) slot.ensures.0 in (
       omega arith,
       (
-        ap (set at.sums slot.result) c.before.plus.ensures
+        ap (set at.sums slot.result) c.plus-sum.ensures
             ∙ more_at 7 (line at.p) (line (at.p + 1)) slot.result d slot.ensures.1 below step at.sums at.invariant.1.0,
         filled_more _ _ _ _ _ _ at.invariant.1.1 l
             (c.within.ensures
@@ -74,8 +74,8 @@ loop_again c =
 
 returns : tie.Need-returns invariant_loop decreases_loop
 returns c =
-    let e : c.before.loop.p ≡ most_ports = omega arith in
-    filled_all _ _ _ most_ports _ refl (rw e at c.before.loop.invariant.1.1)
+    let e : c.loop-p.p ≡ most_ports = omega arith in
+    filled_all _ _ _ most_ports _ refl (rw e at c.loop-p.invariant.1.1)
 
 pub in_turn_spec : {M : Type 1} → statement M
 in_turn_spec =

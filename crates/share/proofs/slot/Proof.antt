@@ -11,6 +11,6 @@ unfolding slot_of
 slot_spec =
     tie.close
     (tie.spec
-    (λ c. (simp (lt-ltb _ _ c.if1.true), search rules))
+    (λ c. (simp (lt-ltb _ _ c.if-rank-lt-NO_CLAIM.true), search rules))
     (λ c. search rules)
-    (λ c. (simp (le-ltb _ _ c.if1.false), search rules)))
+    (λ c. (simp (le-ltb _ _ c.if-rank-lt-NO_CLAIM.false), search rules)))

@@ -12,5 +12,5 @@ within_spec =
     tie.close
     (tie.spec
     (λ c κs. search rules)
-    (λ c. simp (c.fits2.ensures, lt-ltb _ _ c.before.if1.true))
-    (λ c. simp (le-ltb _ _ c.if1.false)))
+    (λ c. simp (c.fits.ensures, lt-ltb _ _ c.if-rank-lt-NO_CLAIM.true))
+    (λ c. simp (le-ltb _ _ c.if-rank-lt-NO_CLAIM.false)))

@@ -10,4 +10,4 @@ end_spec =
     (tie.spec
     (λ c κs. search rules)
     (λ c. search rules)
-    (λ c. c.before.before.put.ensures))
+    (λ c. c.put.ensures))

@@ -13,6 +13,6 @@ glyph_spec =
     tie.close
     (tie.spec
     (λ c. search rules)
-    (λ c. simp (lt-ltb c.before.args.n 10 c.if1.true))
+    (λ c. simp (lt-ltb c.args.n 10 c.if-n-lt10.true))
     (λ c. search rules)
-    (λ c. simp (le-ltb c.before.args.n 10 c.if1.false) (omega arith)))
+    (λ c. simp (le-ltb c.args.n 10 c.if-n-lt10.false) (omega arith)))

@@ -14,10 +14,10 @@ use Rattle.text.proofs.Room.{Put, put_none, put_more, take_next}
 use Rattle.text.proofs.hex.Statement.{statement}
 use Rattle.text.proofs.hex.Tie as tie
 
-abbrev invariant_loop : tie.invariant_loop
+abbrev invariant_loop : tie.invariant-loop-i
 invariant_loop out₀ at bytes to₀ i₀ out to i = (i ≤ length bytes) × (length out ≡ length out₀) × Put out₀ at (hex_of (take i bytes)) to out
 
-abbrev decreases_loop : tie.decreases_loop
+abbrev decreases_loop : tie.decreases-loop-i
 decreases_loop out₀ at bytes to₀ i₀ out to i = length bytes - i
 
 -- two digits after those of the bytes before
@@ -32,9 +32,9 @@ hex_spec =
     (tie.spec
     invariant_loop
     decreases_loop
-    (λ c. let a = c.before.before.args in (search rules, search rules, put_none a.out.now a.at))
+    (λ c. let a = c.args in (search rules, search rules, put_none a.out.now a.at))
     (λ c. search rules)
-    (λ c κs. omega (arith, c.shared-slice-known2.given c.before.before.before.loop.i))
+    (λ c κs. omega (arith, c.shared_slice_known-in-loop-i-1.given c.loop-i.i))
     (λ c κs. search rules)
     (λ c. search rules)
     (λ c κs. search rules)
@@ -42,17 +42,17 @@ hex_spec =
     (λ c. search rules)
     (λ c. search rules)
     (λ c.
-    let l = c.before.before.before.before.before.before.before.before.before.before.before.before.before.loop in
-    let bytes = c.before.before.before.before.before.before.before.before.before.before.before.before.before.before.before.before.args.bytes.now in
-    let p = put_more _ _ (hex_of (take l.i bytes)) (c.before.before.before.before.before.before.before.before.before.glyph.result ∷ []) _ _ _ _ l.invariant.2 c.before.before.before.before.before.before.before.before.put.ensures in
-    let q = put_more _ _ (hex_of (take l.i bytes) ++ (c.before.before.before.before.before.before.before.before.before.glyph.result ∷ [])) (c.before.before.before.glyph2.result ∷ []) _ _ _ _ p c.before.before.put2.ensures in (
+    let l = c.loop-i in
+    let bytes = c.args.bytes.now in
+    let p = put_more _ _ (hex_of (take l.i bytes)) (c.glyph.result ∷ []) _ _ _ _ l.invariant.2 c.put-to.ensures in
+    let q = put_more _ _ (hex_of (take l.i bytes) ++ (c.glyph.result ∷ [])) (c.glyph-in-loop-i.result ∷ []) _ _ _ _ p c.put-to-in-loop-i.ensures in (
       omega arith,
       search rules,
-      rw (two bytes l.i _ _ c.before.before.before.before.before.before.before.before.before.glyph.ensures c.before.before.before.glyph2.ensures (take_next bytes l.i c.before.before.before.before.before.before.before.before.before.before.before.before.loop-test.true)) at q,
+      rw (two bytes l.i _ _ c.glyph.ensures c.glyph-in-loop-i.ensures (take_next bytes l.i c.loop-i-test.true)) at q,
     ))
     (λ c. search rules)
     (λ c.
-    let l = c.before.loop in
-    let bytes = c.before.before.before.before.args.bytes.now in
-    let e : take l.i bytes ≡ bytes = ap (λ (k : ℕ). take k bytes) (le_antisymm l.invariant.0 c.loop-test.false) ∙ take-length bytes in
+    let l = c.loop-i in
+    let bytes = c.args.bytes.now in
+    let e : take l.i bytes ≡ bytes = ap (λ (k : ℕ). take k bytes) (le_antisymm l.invariant.0 c.loop-i-test.false) ∙ take-length bytes in
     rw e at l.invariant.2))

@@ -13,4 +13,4 @@ line_spec =
     (λ c κs. search rules)
     (λ c κs. search rules)
     (λ c. search rules)
-    (λ c. put_more _ _ _ (10 ∷ []) _ _ _ _ c.before.before.before.before.before.before.text.ensures c.before.before.end.ensures))
+    (λ c. put_more _ _ _ (10 ∷ []) _ _ _ _ c.text-to.ensures c.end.ensures))

@@ -13,4 +13,4 @@ number_spec =
     (λ c κs. search rules)
     (λ c κs. search rules)
     (λ c. search rules)
-    (λ c. put_more _ _ (32 ∷ []) _ _ _ _ _ c.before.before.before.before.before.before.put.ensures c.before.before.digits.ensures))
+    (λ c. put_more _ _ (32 ∷ []) _ _ _ _ _ c.put-to.ensures c.digits.ensures))

@@ -13,5 +13,5 @@ put_spec =
     (λ c. search rules)
     (λ c. search rules)
     (λ c. search rules)
-    (λ c. let a = c.before.args in put_byte a.out.now a.at a.b c.if1.true)
-    (λ c. let a = c.before.args in put_full a.out.now a.at (a.b ∷ []) c.if1.false))
+    (λ c. let a = c.args in put_byte a.out.now a.at a.b c.if-at-out.true)
+    (λ c. let a = c.args in put_full a.out.now a.at (a.b ∷ []) c.if-at-out.false))

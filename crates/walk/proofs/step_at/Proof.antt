@@ -13,35 +13,35 @@ unfolding step_of size_at
 step_at_spec =
     tie.close
     (tie.spec
-    (λ c. simp (le-leb _ _ c.if1.true))
+    (λ c. simp (le-leb _ _ c.if-pdu-at.true))
     (λ c. search rules)
-    (λ c. simp (lt-leb _ _ c.before.if1.false, lt-ltb _ _ c.if2.true))
+    (λ c. simp (lt-leb _ _ c.if-pdu-at.false, lt-ltb _ _ c.if-pdu-at-lt2.true))
     (λ c κs. omega arith)
     (λ c.
     simp (
-      lt-leb _ _ c.before.before.before.if1.false,
-      le-ltb _ _ c.before.before.if2.false,
-      ← c.before.type_at.ensures,
-      eq-eqb _ 0 c.if3.true,
+      lt-leb _ _ c.if-pdu-at.false,
+      le-ltb _ _ c.if-pdu-at-lt2.false,
+      ← c.type_at.ensures,
+      eq-eqb _ 0 c.if-type_at-eq0.true,
     ))
     (λ c κs. omega arith)
     (λ c. search rules)
     (λ c. search rules)
     (λ c.
     simp (
-      lt-leb _ _ c.before.before.before.before.before.if1.false,
-      le-ltb _ _ c.before.before.before.before.if2.false,
-      ← c.before.before.before.type_at.ensures,
-      ne_eqb _ 0 c.before.before.if3.false,
-      ← c.before.length_at.ensures.0,
-      lt-ltb _ _ c.if4.true,
+      lt-leb _ _ c.if-pdu-at.false,
+      le-ltb _ _ c.if-pdu-at-lt2.false,
+      ← c.type_at.ensures,
+      ne_eqb _ 0 c.if-type_at-eq0.false,
+      ← c.length_at-size.ensures.0,
+      lt-ltb _ _ c.if-pdu-at-2.true,
     ))
     (λ c.
     simp (
-      lt-leb _ _ c.before.before.before.before.before.if1.false,
-      le-ltb _ _ c.before.before.before.before.if2.false,
-      ← c.before.before.before.type_at.ensures,
-      ne_eqb _ 0 c.before.before.if3.false,
-      ← c.before.length_at.ensures.0,
-      le-ltb _ _ c.if4.false,
+      lt-leb _ _ c.if-pdu-at.false,
+      le-ltb _ _ c.if-pdu-at-lt2.false,
+      ← c.type_at.ensures,
+      ne_eqb _ 0 c.if-type_at-eq0.false,
+      ← c.length_at-size.ensures.0,
+      le-ltb _ _ c.if-pdu-at-2.false,
     )))

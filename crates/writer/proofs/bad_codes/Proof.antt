@@ -23,7 +23,7 @@ bad_codes_spec =
     (tie.spec
     (λ c. search rules)
     (λ c. search rules)
-    (λ c. simp (c.before.before.before.form.given.1, lt-ltb 3 _ c.if1.true))
-    (λ c. simp (c.before.before.before.before.before.form.given.1, le-ltb 3 _ c.before.before.if1.false, lt-ltb 3 _ c.if2.true))
-    (λ c. simp c.enum_told.given.1)
-    (λ c. last _ _ c.before.before.before.before.before.before.form.given.1 c.before.before.before.if1.false c.before.if2.false))
+    (λ c. simp (c.in-Long.is, lt-ltb 3 _ c.if-added-gt3.true))
+    (λ c. simp (c.in-Long.is, le-ltb 3 _ c.if-added-gt3.false, lt-ltb 3 _ c.if-added-gt3-2.true))
+    (λ c. simp c.in-Short.is)
+    (λ c. last _ _ c.in-Long.is c.if-added-gt3.false c.if-added-gt3-2.false))

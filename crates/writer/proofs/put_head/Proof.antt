@@ -27,7 +27,7 @@ put_head_spec =
     (λ c. simp length-set (omega arith))
     (λ c. simp length-set)
     (λ c.
-    let l = c.before.before.before.before.before.args.body in
+    let l = c.args.body in
     let high : (65024 + l) / 256 ≡ 254 = omega arith in
     let low : (65024 + l) % 256 ≡ l = omega arith in
     simp (high, low)))

@@ -9,4 +9,4 @@ asking_spec =
     tie.close
     (tie.spec
     (λ c κs. search rules)
-    (λ c. simp c.before.before.quietly.ensures))
+    (λ c. simp c.quietly-moved.ensures))

@@ -11,5 +11,5 @@ during_spec =
     tie.close
     (tie.spec
     (λ c κs. search rules)
-    (λ c. simp (c.before.if1.true, c.up.ensures))
-    (λ c. simp c.if1.false))
+    (λ c. simp (c.if-runs.true, c.up.ensures))
+    (λ c. simp c.if-runs.false))

@@ -12,4 +12,4 @@ enter_spec =
     (tie.spec
     (λ c κs. search rules)
     (λ c κs. search rules)
-    (λ c. simp (c.before.demand_on_entry.ensures, c.before.before.before.counts_on_entry.ensures)))
+    (λ c. simp (c.demand_on_entry-demand.ensures, c.counts_on_entry-counts.ensures)))

@@ -10,4 +10,4 @@ latching_spec =
     (tie.spec
     (λ c κs. search rules)
     (λ c κs. search rules)
-    (λ c. simp (c.before.quietly.ensures, c.before.before.before.before.join.ensures)))
+    (λ c. simp (c.quietly-moved.ensures, c.join-latches.ensures)))
