@@ -24,18 +24,18 @@ fine_is : (n : ℕ) (block : List ℕ) → flags_fine n block ≡ every n (low b
 unfolding flags_fine reserved_flags above
 fine_is n block = every_cong n (λ p. not (reserved_flags (flags_of_port block p))) (low block) (λ p h. not_leb 64 (flags_of_port block p))
 
-abbrev invariant_loop : tie.invariant_loop
+abbrev invariant_loop : tie.invariant-loop-i
 invariant_loop block n lane₀ clean₀ i₀ lane clean i = (i ≤ n) × (clean ≡ every i (low block)) × Filled 0 (flags_of_port block) lane₀ i lane
 
-abbrev decreases_loop : tie.decreases_loop
+abbrev decreases_loop : tie.decreases-loop-i
 decreases_loop block n lane₀ clean₀ i₀ lane clean i = n - i
 
 -- the second loop goes on with the lane that the first one left
-abbrev invariant_loop2 : tie.invariant_loop2
+abbrev invariant_loop2 : tie.invariant-loop-i-2
 invariant_loop2 block n lane₀ clean₀ i₀ lane clean i =
     (i ≤ n) × (clean ≡ every i (low block)) × ((old : List ℕ) → Filled 0 (flags_of_port block) old i₀ lane₀ → Filled 0 (flags_of_port block) old i lane)
 
-abbrev decreases_loop2 : tie.decreases_loop2
+abbrev decreases_loop2 : tie.decreases-loop-i-2
 decreases_loop2 block n lane₀ clean₀ i₀ lane clean i = n - i
 
 -- one place more, and eight
@@ -78,40 +78,40 @@ all_flags_spec =
     invariant_loop2
     decreases_loop2
     (λ c. (omega arith, refl, filled_none _ _ _))
-    (λ c. omega (arith, c.loop.invariant.0, c.before.before.before.requires.1))
+    (λ c. omega (arith, c.loop-i.invariant.0, c.requires.1))
     (λ c κs.
     let s = c.before.before.before.before.before in
-    (omega (arith, s.requires.0), omega (arith, s.requires.1), c.before.before.loop.invariant.2.long ∙ s.requires.2))
+    (omega (arith, s.requires.0), omega (arith, s.requires.1), c.loop-i.invariant.2.long ∙ s.requires.2))
     (λ c. omega arith)
     (λ c. omega arith)
     (λ c.
-    let l = c.before.before.before.before.before.loop in
+    let l = c.loop-i in
     let s = c.before.before.before.before.before.before.before.before in
     let block = s.args.block.now in (
       omega arith,
-      eight_more (low block) l.i l.clean _ l.invariant.1 c.before.before.eight_flags.ensures.0,
-      filled_eight block s.args.lane.now l.i l.lane _ l.invariant.2 (omega (arith, s.requires.1, s.requires.2)) c.before.before.eight_flags.ensures.1,
+      eight_more (low block) l.i l.clean _ l.invariant.1 c.eight_flags-clean.ensures.0,
+      filled_eight block s.args.lane.now l.i l.lane _ l.invariant.2 (omega (arith, s.requires.1, s.requires.2)) c.eight_flags-clean.ensures.1,
     ))
-    (λ c. (c.before.loop.invariant.0, c.before.loop.invariant.1, λ old F. F))
-    (λ c κs. omega (arith, c.before.before.before.before.before.before.requires.0))
-    (λ c. omega (arith, c.before.before.before.before.before.before.before.requires.1))
-    (λ c. omega (arith, (c.before.before.loop2.invariant.2 _ c.before.before.before.before.loop.invariant.2).long, c.before.before.before.before.before.before.before.requires.1, c.before.before.before.before.before.before.before.requires.2))
+    (λ c. (c.loop-i.invariant.0, c.loop-i.invariant.1, λ old F. F))
+    (λ c κs. omega (arith, c.requires.0))
+    (λ c. omega (arith, c.requires.1))
+    (λ c. omega (arith, (c.loop-i-2.invariant.2 _ c.loop-i.invariant.2).long, c.requires.1, c.requires.2))
     (λ c. omega arith)
     (λ c. omega arith)
     (λ c.
-    let l = c.before.before.loop2 in
+    let l = c.loop-i-2 in
     let s = c.before.before.before.before.before.before.before in
     let block = s.args.block.now in (
       omega arith,
-      ap₂ ◌&&◌ l.invariant.1 (ap (λ (w : ℕ). ltb w 64) c.flags_at.ensures) ∙ sym (every_next l.i (low block)),
-      λ old F. filled_more 0 (flags_of_port block) old l.i l.lane _ (l.invariant.2 old F) (omega (arith, F.long, c.before.before.before.before.loop.invariant.2.long, s.requires.1, s.requires.2)) c.flags_at.ensures,
+      ap₂ ◌&&◌ l.invariant.1 (ap (λ (w : ℕ). ltb w 64) c.flags_at-word.ensures) ∙ sym (every_next l.i (low block)),
+      λ old F. filled_more 0 (flags_of_port block) old l.i l.lane _ (l.invariant.2 old F) (omega (arith, F.long, c.loop-i.invariant.2.long, s.requires.1, s.requires.2)) c.flags_at-word.ensures,
     ))
-    (λ c. (c.before.loop2.invariant.2 _ c.before.before.before.loop.invariant.2).long)
+    (λ c. (c.loop-i-2.invariant.2 _ c.loop-i.invariant.2).long)
     (λ c.
-    let l = c.before.loop2 in
+    let l = c.loop-i-2 in
     let s = c.before.before.before.before.before.before in
-    let e : l.i ≡ s.args.n = le_antisymm l.invariant.0 c.loop2-test.false in
-    let F = l.invariant.2 s.args.lane.now c.before.before.before.loop.invariant.2 in (
+    let e : l.i ≡ s.args.n = le_antisymm l.invariant.0 c.loop-i-2-test.false in
+    let F = l.invariant.2 s.args.lane.now c.loop-i.invariant.2 in (
       l.invariant.1 ∙ ap (λ (k : ℕ). every k (low s.args.block.now)) e ∙ sym (fine_is s.args.n s.args.block.now),
       filled_below 0 (flags_of_port s.args.block.now) s.args.lane.now most_ports s.args.n l.lane s.requires.2 (rw e at F),
     )))

@@ -49,4 +49,4 @@ eight_flags_spec =
     (λ c. search rules)
     (λ c. simp length-set (omega arith))
     (λ c. simp length-set)
-    (λ c. (simp (c.flags_at8.ensures, c.before.flags_at7.ensures, c.before.before.flags_at6.ensures, c.before.before.before.flags_at5.ensures, c.before.before.before.before.flags_at4.ensures, c.before.before.before.before.before.flags_at3.ensures, c.before.before.before.before.before.before.flags_at2.ensures, c.before.before.before.before.before.before.before.flags_at.ensures), simp (c.flags_at8.ensures, c.before.flags_at7.ensures, c.before.before.flags_at6.ensures, c.before.before.before.flags_at5.ensures, c.before.before.before.before.flags_at4.ensures, c.before.before.before.before.before.flags_at3.ensures, c.before.before.before.before.before.before.flags_at2.ensures, c.before.before.before.before.before.before.before.flags_at.ensures))))
+    (λ c. (simp (c.flags_at-h.ensures, c.flags_at-g.ensures, c.flags_at-f.ensures, c.flags_at-e.ensures, c.flags_at-d.ensures, c.flags_at-c.ensures, c.flags_at-b.ensures, c.flags_at-a.ensures), simp (c.flags_at-h.ensures, c.flags_at-g.ensures, c.flags_at-f.ensures, c.flags_at-e.ensures, c.flags_at-d.ensures, c.flags_at-c.ensures, c.flags_at-b.ensures, c.flags_at-a.ensures))))

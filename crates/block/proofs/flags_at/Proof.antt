@@ -18,12 +18,12 @@ flags_at_spec =
     (λ c. search rules)
     (λ c. search rules)
     (λ c. search rules)
-    (λ c. omega (arith, c.shared-slice-known.given (sample_bytes * c.before.args.port + 12)))
-    (λ c. omega (arith, c.shared-slice-known.given (sample_bytes * c.before.args.port + 12)))
+    (λ c. omega (arith, c.shared_slice_known-1.given (sample_bytes * c.args.port + 12)))
+    (λ c. omega (arith, c.shared_slice_known-1.given (sample_bytes * c.args.port + 12)))
     (λ c. search rules)
     (λ c. search rules)
-    (λ c. omega (arith, c.shared-slice-known2.given (sample_bytes * c.before.before.args.port + 12 + 1)))
+    (λ c. omega (arith, c.shared_slice_known-2-1.given (sample_bytes * c.args.port + 12 + 1)))
     (λ c.
-    let at : ℕ = sample_bytes * c.before.before.args.port + 12 in
-    omega (arith, c.shared-slice-known2.given at, c.shared-slice-known2.given (at + 1)))
+    let at : ℕ = sample_bytes * c.args.port + 12 in
+    omega (arith, c.shared_slice_known-2-1.given at, c.shared_slice_known-2-1.given (at + 1)))
     (λ c. omega arith))

@@ -12,17 +12,17 @@ unfolding flags_fit flags_clean flags_laid
 flags_into_spec =
     tie.close
     (tie.spec
-    (λ c. (simp (lt-leb _ _ c.if1.true), simp (lt-leb _ _ c.if1.true)))
+    (λ c. (simp (lt-leb _ _ c.if-n-gt-PORTS.true), simp (lt-leb _ _ c.if-n-gt-PORTS.true)))
     (λ c. search rules)
-    (λ c. let a = le-leb _ _ c.before.if1.false in (simp (a, ne_eqb _ _ c.if2.true), simp (a, ne_eqb _ _ c.if2.true)))
+    (λ c. let a = le-leb _ _ c.if-n-gt-PORTS.false in (simp (a, ne_eqb _ _ c.if-block-n.true), simp (a, ne_eqb _ _ c.if-block-n.true)))
     (λ c.
-    let a = le-leb _ _ c.before.before.if1.false in
-    (simp (a, ne_eqb _ _ c.if3.true, and-false), simp (a, ne_eqb _ _ c.if3.true, and-false)))
+    let a = le-leb _ _ c.if-n-gt-PORTS.false in
+    (simp (a, ne_eqb _ _ c.if-lane-ne-PORTS.true, and-false), simp (a, ne_eqb _ _ c.if-lane-ne-PORTS.true, and-false)))
     (λ c κs. search rules)
     (λ c. search rules)
     (λ c.
-    let f = c.before.before.all_flags.ensures in
-    let a = le-leb _ _ c.before.before.before.before.before.before.if1.false in
-    let b = eq-eqb _ _ c.before.before.before.before.before.if2.false in
-    let l = eq-eqb _ _ c.before.before.before.before.if3.false in
+    let f = c.all_flags.ensures in
+    let a = le-leb _ _ c.if-n-gt-PORTS.false in
+    let b = eq-eqb _ _ c.if-block-n.false in
+    let l = eq-eqb _ _ c.if-lane-ne-PORTS.false in
     (simp (a, b, l) f.0, simp (a, b, l) f.1)))

@@ -16,4 +16,4 @@ budget_spec =
     (λ c. search rules)
     (λ c. search rules)
     (λ c. refl)
-    (λ c. ap tenths (sym (get_or-eq_default budgets 0 c.if1.false))))
+    (λ c. ap tenths (sym (get_or-eq_default budgets 0 c.if-class-lt7.false))))

@@ -17,8 +17,8 @@ demand_for_spec =
     (λ c κs. search rules)
     (λ c κs. search rules)
     (λ c.
-    let most = ap (λ (p : Power). p.0) c.before.before.budget.ensures in
-    ap tenths (omega (arith, c.before.before.before.loss_of.ensures, most, c.if1.true)))
+    let most = ap (λ (p : Power). p.0) c.budget-most.ensures in
+    ap tenths (omega (arith, c.loss_of-with_loss.ensures, most, c.if-with_loss-most.true)))
     (λ c.
-    let most = ap (λ (p : Power). p.0) c.before.before.budget.ensures in
-    ap tenths (omega (arith, c.before.before.before.loss_of.ensures, most, c.if1.false))))
+    let most = ap (λ (p : Power). p.0) c.budget-most.ensures in
+    ap tenths (omega (arith, c.loss_of-with_loss.ensures, most, c.if-with_loss-most.false))))

@@ -24,6 +24,6 @@ over_class_spec =
     (tie.spec
     (λ c. search rules)
     (λ c. search rules)
-    (λ c. record { fits = entry_fits c.before.args.class })
+    (λ c. record { fits = entry_fits c.args.class })
     (λ c. refl)
-    (λ c. ap (λ most. ltb most c.before.args.value) (sym (get_or-eq_default largest 0 c.if1.false))))
+    (λ c. ap (λ most. ltb most c.args.value) (sym (get_or-eq_default largest 0 c.if-class-lt7.false))))

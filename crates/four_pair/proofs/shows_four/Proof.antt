@@ -11,6 +11,6 @@ shows_four_spec =
     (λ c. search rules)
     (λ c. search rules)
     (λ c. search rules)
-    (λ c. simp c.before.events.given.1)
+    (λ c. simp c.in-Is.is)
     (λ c. search rules)
     (λ c. search rules))

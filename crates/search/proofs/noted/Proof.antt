@@ -13,10 +13,10 @@ noted_spec =
     tie.close
     (tie.spec
     (λ c κs. search rules)
-    (λ c. simp (sym c.before.is_power.ensures ∙ not-true _ c.if1.true))
+    (λ c. simp (sym c.is_power.ensures ∙ c.if-not-is_power.true))
     (λ c. search rules)
     (λ c. search rules)
     (λ c. search rules)
-    (λ c. simp (sym c.before.before.before.is_power.ensures ∙ not-false _ c.before.before.if1.false, c.enum_told.given.1))
-    (λ c. simp (sym c.before.before.before.is_power.ensures ∙ not-false _ c.before.before.if1.false, c.enum-told2.given.1))
-    (λ c. simp (sym c.before.before.before.is_power.ensures ∙ not-false _ c.before.before.if1.false, c.enum-told3.given.1)))
+    (λ c. simp (sym c.is_power.ensures ∙ c.if-not-is_power.false, c.in-Nothing.is))
+    (λ c. simp (sym c.is_power.ensures ∙ c.if-not-is_power.false, c.in-One.is))
+    (λ c. simp (sym c.is_power.ensures ∙ c.if-not-is_power.false, c.in-More.is)))

@@ -23,12 +23,12 @@ part_spec =
     tie.close
     (tie.spec
     (λ c. search rules)
-    (λ c. let a = c.before.before.args in none a.pdu.now a.start a.size c.before.if1.true)
+    (λ c. let a = c.args in none a.pdu.now a.start a.size c.if-pdu-start.true)
     (λ c. search rules)
     (λ c. search rules)
     (λ c. search rules)
     (λ c. search rules)
-    (λ c. let a = c.before.before.before.args in all a.pdu.now a.start a.size c.before.if2.true)
+    (λ c. let a = c.args in all a.pdu.now a.start a.size c.if-pdu-start-2.true)
     (λ c. search rules)
     (λ c. search rules)
     (λ c. search rules)

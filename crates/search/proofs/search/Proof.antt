@@ -15,16 +15,16 @@ use Rattle.search.proofs.FromHere.{outlook, allowed, ends, breaks, goes_on}
 use Rattle.search.proofs.search.Statement.{statement}
 use Rattle.search.proofs.search.Tie as tie
 
-abbrev invariant_loop : tie.invariant_loop
+abbrev invariant_loop : tie.invariant-loop-size
 invariant_loop pdu at₀ seen₀ at seen = outlook pdu Nothing (walk_from pdu 0) ≡ outlook pdu seen (walk_from pdu at)
 
-abbrev decreases_loop : tie.decreases_loop
+abbrev decreases_loop : tie.decreases-loop-size
 decreases_loop pdu at₀ seen₀ at seen = length pdu - at
 
 -- a turn of the loop passes a whole TLV
-stepped : (c : tie.After-known-told invariant_loop decreases_loop) →
-    step_of c.before.before.before.before.before.before.before.args.pdu.now c.before.before.before.before.loop.at ≡ Tlv c.before.size.given.0.0
-stepped c = sym c.before.before.before.tlv_at.ensures ∙ c.before.size.given.1
+stepped : (c : tie.In-Tlv invariant_loop decreases_loop) →
+    step_of c.args.pdu.now c.loop-size.at ≡ Tlv c.in-Tlv.size
+stepped c = sym c.tlv_at.ensures ∙ c.in-Tlv.is
 
 pub search_spec : {M : Type 1} → statement M
 unfolding search_of
@@ -33,18 +33,18 @@ search_spec =
     (tie.spec
     invariant_loop
     decreases_loop
-    (λ c. simp (lt-ltb _ _ c.if1.true))
+    (λ c. simp (lt-ltb _ _ c.if-pdu-gt1500.true))
     (λ c. refl)
     (λ c κs. search rules)
     (λ c. search rules)
     (λ c κs. search rules)
     (λ c.
     c.answer.ensures
-    ∙ sym (allowed _ c.before.before.before.before.before.if1.false ∙ c.before.before.before.before.loop.invariant ∙ ends _ _ _ (sym c.before.before.before.tlv_at.ensures ∙ c.before.enum_told.given.1)))
+    ∙ sym (allowed _ c.if-pdu-gt1500.false ∙ c.loop-size.invariant ∙ ends _ _ _ (sym c.tlv_at.ensures ∙ c.in-End.is)))
     (λ c. search rules)
-    (λ c. sym (allowed _ c.before.before.before.before.if1.false ∙ c.before.before.before.loop.invariant ∙ breaks _ _ c.before.before.before.loop.seen (sym c.before.before.tlv_at.ensures ∙ c.enum-told2.given.1)))
+    (λ c. sym (allowed _ c.if-pdu-gt1500.false ∙ c.loop-size.invariant ∙ breaks _ _ c.loop-size.seen (sym c.tlv_at.ensures ∙ c.in-Cut.is)))
     (λ c. search rules)
     (λ c κs. let w = whole _ _ _ (stepped c) in omega (arith, w.says, w.fits))
     (λ c. let w = whole _ _ _ (stepped c.before) in omega (arith, w.fits))
     (λ c. let w = whole _ _ _ (stepped c.before) in omega (arith, w.fits, w.header))
-    (λ c. c.before.before.before.before.before.loop.invariant ∙ goes_on _ _ _ _ _ (stepped c.before) c.noted.ensures))
+    (λ c. c.loop-size.invariant ∙ goes_on _ _ _ _ _ (stepped c.before) c.noted-seen.ensures))

@@ -12,11 +12,11 @@ settled_port_spec =
     tie.close
     (tie.spec
     (λ c κs. search rules)
-    (λ c. simp (le-leb _ _ c.before.if1.true, c.quietly.ensures))
+    (λ c. simp (le-leb _ _ c.if-rank-ge-NO_CLAIM.true, c.quietly.ensures))
     (λ c κs. search rules)
-    (λ c. simp (lt-leb _ _ c.before.before.if1.false, not-true c.before.before.before.args.kept c.before.if2.true, c.shed_port.ensures))
+    (λ c. simp (lt-leb _ _ c.if-rank-ge-NO_CLAIM.false, c.if-not-kept.true, c.shed_port.ensures))
     (λ c κs. search rules)
     (λ c κs. search rules)
-    (λ c. simp (lt-leb _ _ c.before.before.before.before.if1.false, not-false c.before.before.before.before.before.args.kept c.before.before.before.if2.false, le-leb _ _ c.before.before.if3.true, c.before.granted_in.ensures, c.quietly2.ensures))
+    (λ c. simp (lt-leb _ _ c.if-rank-ge-NO_CLAIM.false, c.if-not-kept.false, le-leb _ _ c.if-rank-ge3.true, c.granted_in.ensures, c.quietly-then-rank-ge3.ensures))
     (λ c κs. search rules)
-    (λ c. simp (lt-leb _ _ c.before.before.before.if1.false, not-false c.before.before.before.before.args.kept c.before.before.if2.false, lt-leb _ _ c.before.if3.false, c.quietly3.ensures)))
+    (λ c. simp (lt-leb _ _ c.if-rank-ge-NO_CLAIM.false, c.if-not-kept.false, lt-leb _ _ c.if-rank-ge3.false, c.quietly-2.ensures)))

@@ -10,5 +10,5 @@ classing_spec =
     (tie.spec
     (λ c κs. search rules)
     (λ c κs. search rules)
-    (λ c. simp (c.before.before.if1.true, c.classing_of.ensures, c.before.class_of_two.ensures))
-    (λ c. simp c.if1.false))
+    (λ c. simp (c.if-done.true, c.classing_of.ensures, c.class_of_two-reading.ensures))
+    (λ c. simp c.if-done.false))

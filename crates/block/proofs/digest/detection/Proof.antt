@@ -10,5 +10,5 @@ detection_spec =
     (tie.spec
     (λ c κs. search rules)
     (λ c κs. search rules)
-    (λ c. simp (c.before.before.if1.true, c.detection_of.ensures, c.before.signature_of.ensures))
-    (λ c. simp c.if1.false))
+    (λ c. simp (c.if-done.true, c.detection_of.ensures, c.signature_of.ensures))
+    (λ c. simp c.if-done.false))

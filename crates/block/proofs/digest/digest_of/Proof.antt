@@ -13,4 +13,4 @@ digest_of_spec =
     (λ c κs. search rules)
     (λ c κs. search rules)
     (λ c κs. search rules)
-    (λ c. simp (c.classing.ensures, c.before.detection.ensures, c.before.before.flags_of_row.ensures)))
+    (λ c. simp (c.classing-class.ensures, c.detection-detection.ensures, c.flags_of-flags.ensures)))

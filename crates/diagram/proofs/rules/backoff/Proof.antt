@@ -14,6 +14,6 @@ backoff_spec =
     (λ c κs. search rules)
     (λ c κs. search rules)
     (λ c κs. search rules)
-    (λ c. simp (c.quietly.ensures, c.before.enter.ensures, ← c.before.before.before.before.before.up.ensures, le-leb _ _ c.before.before.if1.true))
+    (λ c. simp (c.quietly.ensures, c.enter.ensures, ← c.up-ticks.ensures, le-leb _ _ c.if-ticks-ge-BACKOFF_ENDS.true))
     (λ c κs. search rules)
-    (λ c. simp (c.quietly2.ensures, ← c.before.before.before.before.up.ensures, lt-leb _ _ c.before.if1.false)))
+    (λ c. simp (c.quietly-2.ensures, ← c.up-ticks.ensures, lt-leb _ _ c.if-ticks-ge-BACKOFF_ENDS.false)))

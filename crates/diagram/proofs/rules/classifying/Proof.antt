@@ -16,6 +16,6 @@ classifying_spec =
     (λ c κs. search rules)
     (λ c κs. search rules)
     (λ c κs. search rules)
-    (λ c. simp (c.quietly.ensures, c.before.enter.ensures, ← c.before.before.before.before.before.up.ensures, le-leb classifying_ticks c.before.before.before.before.before.up.result (omega (arith, c.before.before.if1.true))))
+    (λ c. simp (c.quietly.ensures, c.enter.ensures, ← c.up-ticks.ensures, le-leb classifying_ticks c.up-ticks.result (omega (arith, c.if-ticks-ge-CLASSIFYING_ENDS.true))))
     (λ c κs. search rules)
-    (λ c. simp (c.classed.ensures, ← c.before.before.before.before.up.ensures, lt-leb _ _ c.before.if1.false)))
+    (λ c. simp (c.classed.ensures, ← c.up-ticks.ensures, lt-leb _ _ c.if-ticks-ge-CLASSIFYING_ENDS.false)))

@@ -16,6 +16,6 @@ detecting_spec =
     (λ c κs. search rules)
     (λ c κs. search rules)
     (λ c κs. search rules)
-    (λ c. simp (c.quietly.ensures, c.before.enter.ensures, ← c.before.before.before.before.before.up.ensures, le-leb detecting_ticks c.before.before.before.before.before.up.result (omega (arith, c.before.before.if1.true))))
+    (λ c. simp (c.quietly.ensures, c.enter.ensures, ← c.up-ticks.ensures, le-leb detecting_ticks c.up-ticks.result (omega (arith, c.if-ticks-ge-DETECTING_ENDS.true))))
     (λ c κs. search rules)
-    (λ c. simp (c.detected.ensures, ← c.before.before.before.before.up.ensures, lt-leb _ _ c.before.if1.false)))
+    (λ c. simp (c.detected.ensures, ← c.up-ticks.ensures, lt-leb _ _ c.if-ticks-ge-DETECTING_ENDS.false)))

@@ -16,4 +16,4 @@ power_up_spec =
     (λ c κs. search rules)
     (λ c κs. search rules)
     (λ c κs. search rules)
-    (λ c. simp (c.watched.ensures, c.before.quietly.ensures, c.before.before.risen.ensures, c.before.before.before.enter.ensures, ← c.before.before.before.before.before.before.stressed.ensures, ← c.before.before.before.before.before.before.before.up.ensures)))
+    (λ c. simp (c.watched.ensures, c.quietly.ensures, c.risen.ensures, c.enter.ensures, ← c.stressed-stress.ensures, ← c.up-ticks.ensures)))

@@ -14,7 +14,7 @@ risen_spec =
     tie.close
     (tie.spec
     (λ c κs. search rules)
-    (λ c. simp (c.enter.ensures, le-leb power_up_ticks c.before.before.before.args.port.counts.power_on (omega (arith, c.before.if1.true))))
+    (λ c. simp (c.enter.ensures, le-leb power_up_ticks c.args.port.counts.power_on (omega (arith, c.if-port-ge-POWER_UP_ENDS.true))))
     (λ c κs. search rules)
-    (λ c. simp (c.enter2.ensures, c.before.if2.true, lt-leb _ _ c.before.before.if1.false))
-    (λ c. simp (c.if2.false, lt-leb _ _ c.before.if1.false)))
+    (λ c. simp (c.enter-then-settled.ensures, c.if-settled.true, lt-leb _ _ c.if-port-ge-POWER_UP_ENDS.false))
+    (λ c. simp (c.if-settled.false, lt-leb _ _ c.if-port-ge-POWER_UP_ENDS.false)))

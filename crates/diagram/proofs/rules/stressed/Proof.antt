@@ -12,4 +12,4 @@ stressed_spec =
     (tie.spec
     (λ c κs. search rules)
     (λ c κs. search rules)
-    (λ c. simp (c.before.during.ensures, c.during2.ensures)))
+    (λ c. simp (c.during-limiting.ensures, c.during-overload.ensures)))

@@ -12,7 +12,7 @@ watched_spec =
     tie.close
     (tie.spec
     (λ c κs. search rules)
-    (λ c. simp (c.latching.ensures, le-leb _ _ c.before.if1.true))
+    (λ c. simp (c.latching.ensures, le-leb _ _ c.if-port-ge-FAULT.true))
     (λ c κs. search rules)
-    (λ c. simp (c.latching2.ensures, lt-leb _ _ c.before.before.before.if1.false, le-leb _ _ c.before.if2.true))
-    (λ c. simp (lt-leb _ _ c.before.before.if1.false, lt-leb _ _ c.if2.false)))
+    (λ c. simp (c.latching-then-port-ge-FAULT-2.ensures, lt-leb _ _ c.if-port-ge-FAULT.false, le-leb _ _ c.if-port-ge-FAULT-2.true))
+    (λ c. simp (lt-leb _ _ c.if-port-ge-FAULT.false, lt-leb _ _ c.if-port-ge-FAULT-2.false)))

@@ -15,5 +15,5 @@ loss_of_spec =
     (tie.spec
     (λ c. search rules)
     (λ c. search rules)
-    (λ c. sym (loss_entry _ (omega (arith, c.if1.true))))
-    (λ c. sym (loss_none _ (omega (arith, c.if1.false)))))
+    (λ c. sym (loss_entry _ (omega (arith, c.if-request-le510.true))))
+    (λ c. sym (loss_none _ (omega (arith, c.if-request-le510.false)))))
