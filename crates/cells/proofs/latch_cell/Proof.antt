@@ -27,12 +27,12 @@ latch_cell_spec =
     (λ c. search rules)
     (λ c.
     simp (
-      c.before.before.before.before.before.before.before.place.ensures.0,
-      c.before.before.before.before.before.before.place2.ensures.0,
-      c.before.before.before.before.before.place3.ensures.0,
-      c.before.before.before.before.place4.ensures.0,
-      c.before.before.before.place5.ensures.0,
-      c.before.before.place6.ensures.0,
-      c.before.place7.ensures.0,
-      c.place8.ensures.0,
+      c.place.ensures.0,
+      c.place-2.ensures.0,
+      c.place-3.ensures.0,
+      c.place-4.ensures.0,
+      c.place-5.ensures.0,
+      c.place-6.ensures.0,
+      c.place-7.ensures.0,
+      c.place-8.ensures.0,
     )))

@@ -14,9 +14,9 @@ claims_of_spec =
     tie.close
     (tie.spec
     (λ c κs. search rules)
-    (λ c. let e = sym c.before.is_claimable.ensures ∙ not-true _ c.if1.true in simp e)
-    (λ c κs. let e = sym c.before.is_claimable.ensures ∙ not-false _ c.if1.false in (claimable_cells _ _ _ e, claimable_few _ _ _ e, claimable_lane _ _ _ e))
-    (λ c κs. let e = sym c.before.before.is_claimable.ensures ∙ not-false _ c.before.if1.false in (claimable_cells _ _ _ e, claimable_few _ _ _ e))
+    (λ c. let e = sym c.is_claimable.ensures ∙ c.if-not-is_claimable.true in simp e)
+    (λ c κs. let e = sym c.is_claimable.ensures ∙ c.if-not-is_claimable.false in (claimable_cells _ _ _ e, claimable_few _ _ _ e, claimable_lane _ _ _ e))
+    (λ c κs. let e = sym c.is_claimable.ensures ∙ c.if-not-is_claimable.false in (claimable_cells _ _ _ e, claimable_few _ _ _ e))
     (λ c.
-    let e = sym c.before.before.before.is_claimable.ensures ∙ not-false _ c.before.before.if1.false in
-    simp (e, c.demands_of.ensures, c.before.ranks_of.ensures)))
+    let e = sym c.is_claimable.ensures ∙ c.if-not-is_claimable.false in
+    simp (e, c.demands_of-demands.ensures, c.ranks_of-ranks.ensures)))

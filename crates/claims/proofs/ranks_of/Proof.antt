@@ -22,10 +22,10 @@ use Rattle.claims.proofs.ranks_of.Tie as tie
 abbrev rank_here : List ℕ → List ℕ → ℕ → ℕ
 rank_here cells lane p = rank_in (port_of cells p).state (port_of cells p).control (is_set (get_or lane p 0))
 
-abbrev invariant_loop : tie.invariant_loop
+abbrev invariant_loop : tie.invariant-loop-p
 invariant_loop cells n lane ranks₀ p₀ ranks p = (p ≤ n) × Filled 0 (rank_here cells lane) (replicate most_ports no_claim) p ranks
 
-abbrev decreases_loop : tie.decreases_loop
+abbrev decreases_loop : tie.decreases-loop-p
 decreases_loop cells n lane ranks₀ p₀ ranks p = n - p
 
 pub ranks_of_spec : {M : Type 1} → statement M
@@ -38,25 +38,25 @@ ranks_of_spec =
     (λ c. (omega arith, filled_none _ _ _))
     (λ c. omega arith)
     (λ c. omega arith)
-    (λ c. omega (arith, c.before.before.before.before.before.requires.0, c.before.before.before.before.before.requires.1))
+    (λ c. omega (arith, c.requires.0, c.requires.1))
     (λ c κs. search rules)
     (λ c. omega arith)
     (λ c. omega arith)
-    (λ c. omega (arith, c.before.before.before.before.before.before.before.requires.0, c.before.before.before.before.before.before.before.requires.1))
+    (λ c. omega (arith, c.requires.0, c.requires.1))
     (λ c. omega arith)
-    (λ c. omega (arith, c.before.before.before.before.before.before.before.before.requires.1, c.before.before.before.before.before.before.before.before.requires.2))
+    (λ c. omega (arith, c.requires.1, c.requires.2))
     (λ c κs. search rules)
-    (λ c. omega (arith, c.before.before.before.before.before.before.before.before.before.requires.1))
+    (λ c. omega (arith, c.requires.1))
     (λ c. omega arith)
     (λ c. omega arith)
     (λ c.
-    let l = c.before.before.before.before.before.before.loop in
-    let a = c.before.before.before.before.before.before.before.before.before.args in (
+    let l = c.loop-p in
+    let a = c.args in (
       omega arith,
-      filled_more 0 (rank_here a.cells.now a.lane.now) (replicate most_ports no_claim) l.p l.ranks _ l.invariant.1 (omega (arith, c.before.before.before.before.before.before.before.before.before.requires.1))
-          (c.rank_in_lem.ensures ∙ ap (λ (s : State). rank_in s (port_of a.cells.now l.p).control (is_set (get_or a.lane.now l.p 0))) c.before.before.before.state_of.ensures),
+      filled_more 0 (rank_here a.cells.now a.lane.now) (replicate most_ports no_claim) l.p l.ranks _ l.invariant.1 (omega (arith, c.requires.1))
+          (c.rank_in-rank.ensures ∙ ap (λ (s : State). rank_in s (port_of a.cells.now l.p).control (is_set (get_or a.lane.now l.p 0))) c.state_of.ensures),
     ))
     (λ c.
-    let l = c.before.loop in
-    let a = c.before.before.before.before.args in
-    filled_over 0 (rank_here a.cells.now a.lane.now) no_claim most_ports a.n l.ranks (rw (le_antisymm l.invariant.0 c.loop-test.false) at l.invariant.1)))
+    let l = c.loop-p in
+    let a = c.args in
+    filled_over 0 (rank_here a.cells.now a.lane.now) no_claim most_ports a.n l.ranks (rw (le_antisymm l.invariant.0 c.loop-p-test.false) at l.invariant.1)))

@@ -15,10 +15,10 @@ use Rattle.claims.proofs.sum_wanted.Tie as tie
 abbrev sums : List ℕ → List ℕ → ℕ → ℕ
 sums cells lane p = total p (λ q. wants (get_or lane q 0) cells q)
 
-abbrev invariant_loop : tie.invariant_loop
+abbrev invariant_loop : tie.invariant-loop-p
 invariant_loop cells n lane sum₀ p₀ sum p = (p ≤ n) × (sum ≡ sums cells lane p) × (sum ≤ p * 65535)
 
-abbrev decreases_loop : tie.decreases_loop
+abbrev decreases_loop : tie.decreases-loop-p
 decreases_loop cells n lane sum₀ p₀ sum p = n - p
 
 pub sum_wanted_spec : {M : Type 1} → statement M
@@ -30,16 +30,16 @@ sum_wanted_spec =
     decreases_loop
     (λ c. (omega arith, refl, omega arith))
     (λ c. omega arith)
-    (λ c. omega (arith, c.before.before.before.before.before.requires.1, c.before.before.before.before.before.requires.2))
-    (λ c κs. (c.before.before.before.before.before.requires.0, omega (arith, c.before.before.before.before.before.requires.1)))
-    (λ c. omega (arith, c.before.before.before.loop.invariant.2, c.wants_at.ensures.1, c.before.before.before.before.before.before.requires.1))
+    (λ c. omega (arith, c.requires.1, c.requires.2))
+    (λ c κs. (c.requires.0, omega (arith, c.requires.1)))
+    (λ c. omega (arith, c.loop-p.invariant.2, c.wants_at-sum.ensures.1, c.requires.1))
     (λ c. omega arith)
     (λ c. omega arith)
     (λ c.
-    let l = c.before.before.before.loop in
-    let a = c.before.before.before.before.before.before.args in
-    (omega arith, ap₂ ◌+◌ l.invariant.1 c.wants_at.ensures.0 ∙ sym (total_next l.p (λ q. wants (get_or a.lane.now q 0) a.cells.now q)), omega (arith, l.invariant.2, c.wants_at.ensures.1)))
+    let l = c.loop-p in
+    let a = c.args in
+    (omega arith, ap₂ ◌+◌ l.invariant.1 c.wants_at-sum.ensures.0 ∙ sym (total_next l.p (λ q. wants (get_or a.lane.now q 0) a.cells.now q)), omega (arith, l.invariant.2, c.wants_at-sum.ensures.1)))
     (λ c.
-    let l = c.before.loop in
-    let e : l.p ≡ c.before.before.before.before.args.n = le_antisymm l.invariant.0 (omega arith) in
+    let l = c.loop-p in
+    let e : l.p ≡ c.args.n = le_antisymm l.invariant.0 (omega arith) in
     (rw e at l.invariant.1, rw e at l.invariant.2)))

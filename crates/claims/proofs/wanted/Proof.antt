@@ -13,6 +13,6 @@ wanted_spec =
     tie.close
     (tie.spec
     (λ c κs. search rules)
-    (λ c κs. let e = sym c.before.is_claimable.ensures ∙ c.if1.true in (claimable_cells _ _ _ e, claimable_few _ _ _ e, claimable_lane _ _ _ e))
-    (λ c. let e = sym c.before.before.is_claimable.ensures ∙ c.before.if1.true in simp e c.sum_wanted.ensures.0)
-    (λ c. let e = sym c.before.is_claimable.ensures ∙ c.if1.false in simp e))
+    (λ c κs. let e = sym c.is_claimable.ensures ∙ c.if-is_claimable.true in (claimable_cells _ _ _ e, claimable_few _ _ _ e, claimable_lane _ _ _ e))
+    (λ c. let e = sym c.is_claimable.ensures ∙ c.if-is_claimable.true in simp e c.sum_wanted.ensures.0)
+    (λ c. let e = sym c.is_claimable.ensures ∙ c.if-is_claimable.false in simp e))

@@ -18,15 +18,15 @@ wrapping_add_u16_requires : tie.Need-wrapping-add-u16-requires
 wrapping_add_u16_requires c κs = search rules
 
 -- src/lib.rt:77:9
-running_requires : tie.Need-running-requires
+running_requires : tie.Need-running-limiting-requires
 running_requires c κs = search rules
 
 -- src/lib.rt:78:9
-running_requires_2 : tie.Need-running-requires-2
+running_requires_2 : tie.Need-running-overload-requires
 running_requires_2 c κs = search rules
 
 -- src/lib.rt:79:9
-running_requires_3 : tie.Need-running-requires-3
+running_requires_3 : tie.Need-running-gone-requires
 running_requires_3 c κs = search rules
 
 -- src/lib.rt:92:20
@@ -64,7 +64,7 @@ mark_unless_requires c κs = search rules
 -- src/lib.rt:72:1
 returns : tie.Need-returns
 unfolding looked signs_by
-returns c = simp (c.mark_unless.ensures, c.before.pick3.ensures, c.before.before.pick2.ensures, c.before.before.before.pick.ensures, c.before.before.before.before.counted4.ensures, c.before.before.before.before.before.counted3.ensures, c.before.before.before.before.before.before.counted2.ensures, c.before.before.before.before.before.before.before.counted.ensures, c.before.before.before.before.before.before.before.before.before.before.before.before.running3.ensures, c.before.before.before.before.before.before.before.before.before.before.before.before.before.running2.ensures, c.before.before.before.before.before.before.before.before.before.before.before.before.before.before.running.ensures, c.before.before.before.before.before.before.before.before.before.before.before.before.before.before.before.wrapping_add_u16.ensures)
+returns c = simp (c.mark_unless-mark.ensures, c.pick-3.ensures, c.pick-2.ensures, c.pick.ensures, c.counted-4.ensures, c.counted-3.ensures, c.counted-2.ensures, c.counted.ensures, c.running-gone.ensures, c.running-overload.ensures, c.running-limiting.ensures, c.wrapping_add_u16-key.ensures)
 
 pub look_at_spec : {M : Type 1} → statement M
 look_at_spec =

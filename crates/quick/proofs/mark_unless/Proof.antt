@@ -32,6 +32,6 @@ mark_unless_spec =
     (λ c κs. search rules)
     (λ c κs. search rules)
     (λ c.
-    let a = c.before.before.before.before.before.before.args in
-    simp (c.pick4.ensures, c.before.wrapping-add-u162.ensures, c.before.before.pick3.ensures, c.before.before.before.wrapping_add_u16.ensures, c.before.before.before.before.pick2.ensures, c.before.before.before.before.before.pick.ensures)
+    let a = c.args in
+    simp (c.pick-4.ensures, c.wrapping-add-u162.ensures, c.pick-3.ensures, c.wrapping_add_u16-two.ensures, c.pick-2.ensures, c.pick.ensures)
     (added a.a a.b a.c ∙ none ((a.a || a.b) || a.c))))

@@ -10,11 +10,11 @@ wrapping_add_u16_requires : tie.Need-wrapping-add-u16-requires
 wrapping_add_u16_requires c κs = search rules
 
 -- src/lib.rt:60:1
-returns : tie.Need-returns
-returns c = simp c.before.if1.true c.wrapping_add_u16.ensures
+returns : tie.Need-returns-then-runs
+returns c = simp c.if-runs.true c.wrapping_add_u16.ensures
 
 -- src/lib.rt:60:1
-returns_2 : tie.Need-returns-2
+returns_2 : tie.Need-returns-else-runs
 returns_2 c = search rules
 
 pub running_spec : {M : Type 1} → statement M

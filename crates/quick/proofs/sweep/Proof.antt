@@ -16,25 +16,25 @@ sweep_spec =
     (λ c. search rules)
     (λ c. search rules)
     (λ c.
-    let a = c.before.before.before.before.before.before.args in
-    let e : sweepable a.cells.now a.lane.now ≡ false = sym c.before.is_sweepable.ensures ∙ not-true _ c.if1.true in
+    let a = c.args in
+    let e : sweepable a.cells.now a.lane.now ≡ false = sym c.is_sweepable.ensures ∙ c.if-not-is_sweepable.true in
     (simp e, (simp e, simp e)))
     (λ c.
-    let a = c.before.before.before.before.before.before.before.args in
-    let e : sweepable a.cells.now a.lane.now ≡ true = sym c.before.before.is_sweepable.ensures ∙ not-false _ c.before.if1.false in
+    let a = c.args in
+    let e : sweepable a.cells.now a.lane.now ≡ true = sym c.is_sweepable.ensures ∙ c.if-not-is_sweepable.false in
     omega (arith, sweepable_cells a.cells.now a.lane.now e))
     (λ c.
-    let a = c.before.before.before.before.before.before.before.args in
-    let e : sweepable a.cells.now a.lane.now ≡ true = sym c.before.before.is_sweepable.ensures ∙ not-false _ c.before.if1.false in
+    let a = c.args in
+    let e : sweepable a.cells.now a.lane.now ≡ true = sym c.is_sweepable.ensures ∙ c.if-not-is_sweepable.false in
     omega (arith, sweepable_few a.cells.now a.lane.now e))
     (λ c κs.
-    let a = c.before.before.before.before.before.before.before.before.before.args in
-    let e : sweepable a.cells.now a.lane.now ≡ true = sym c.before.before.before.before.is_sweepable.ensures ∙ not-false _ c.before.before.before.if1.false in
+    let a = c.args in
+    let e : sweepable a.cells.now a.lane.now ≡ true = sym c.is_sweepable.ensures ∙ c.if-not-is_sweepable.false in
     (sweepable_cells a.cells.now a.lane.now e, sweepable_few a.cells.now a.lane.now e, sweepable_lane a.cells.now a.lane.now e))
     (λ c. search rules)
     (λ c. search rules)
     (λ c.
-    let a = c.before.before.before.before.before.before.before.before.before.before.before.before.before.before.args in
-    let e : sweepable a.cells.now a.lane.now ≡ true = sym c.before.before.before.before.before.before.before.before.before.is_sweepable.ensures ∙ not-false _ c.before.before.before.before.before.before.before.before.if1.false in
-    let s = c.before.before.before.before.sweep_all.ensures in
+    let a = c.args in
+    let e : sweepable a.cells.now a.lane.now ≡ true = sym c.is_sweepable.ensures ∙ c.if-not-is_sweepable.false in
+    let s = c.sweep_all.ensures in
     (simp e s.0, (simp e s.1.0, simp e s.1.1))))

@@ -17,11 +17,11 @@ marks lane l p = (looked_at (get_or lane p 0) l p).mark
 abbrev some : ℕ → List ℕ → List ℕ → Bool
 some p lane l = some_below p (λ q. is_marked (get_or lane q 0) l q)
 
-abbrev invariant_loop : tie.invariant_loop
+abbrev invariant_loop : tie.invariant-loop-p
 invariant_loop cells₀ n lane₀ left₀ p₀ cells lane left p =
     (p ≤ n) × (cells ≡ looked_cells p lane₀ cells₀) × Filled 0 (marks lane₀ cells₀) lane₀ p lane × (left ≡ all_bits (some p lane₀ cells₀))
 
-abbrev decreases_loop : tie.decreases_loop
+abbrev decreases_loop : tie.decreases-loop-p
 decreases_loop cells₀ n lane₀ left₀ p₀ cells lane left p = n - p
 
 -- the next place of the pass: its flags are those that the lane began with
@@ -38,22 +38,22 @@ sweep_all_spec =
     decreases_loop
     (λ c. (omega arith, refl, filled_none _ _ _, refl))
     (λ c. omega arith)
-    (λ c. omega (arith, c.before.before.before.loop.invariant.2.long, c.before.before.before.before.before.before.requires.2))
+    (λ c. omega (arith, c.loop-p.invariant.2.long, c.requires.2))
     (λ c κs.
-    let l = c.before.before.before.loop in
+    let l = c.loop-p in
     let a = c.before.before.before.before.before.before in
     (ap length l.invariant.1 ∙ looked_long a.args.lane.now a.args.cells.now l.p ∙ a.requires.0, omega (arith, a.requires.1)))
     (λ c. omega arith)
-    (λ c. omega (arith, c.before.before.before.before.before.before.loop.invariant.2.long, c.before.before.before.before.before.before.before.before.before.requires.2))
+    (λ c. omega (arith, c.loop-p.invariant.2.long, c.requires.2))
     (λ c κs. search rules)
     (λ c. omega arith)
     (λ c. omega arith)
     (λ c.
-    let l = c.before.before.before.before.before.before.before.loop in
+    let l = c.loop-p in
     let s = c.before.before.before.before.before.before.before.before.before.before in
     let lane₀ = s.args.lane.now in
     let cells₀ = s.args.cells.now in
-    let q = c.before.before.before.sweep_port in
+    let q = c.sweep_port-mark in
     let small : l.p < most_ports = omega (arith, s.requires.1) in
     let t = turn lane₀ cells₀ l.lane l.cells l.p l.invariant.1 l.invariant.2 small in
     let mark : q.result ≡ (looked_at (get_or lane₀ l.p 0) cells₀ l.p).mark = q.ensures.0 ∙ ap (λ (x : Look). x.mark) t in
@@ -61,18 +61,18 @@ sweep_all_spec =
       omega arith,
       looked_more lane₀ cells₀ l.p l.cells _ l.invariant.1 small (rw flags at q.ensures.1),
       filled_more 0 (marks lane₀ cells₀) lane₀ l.p l.lane q.result l.invariant.2 (omega (arith, s.requires.2)) mark,
-      c.greater.ensures
+      c.greater-left.ensures
           ∙ ap₂ (λ (x y : ℕ). cond (ltb x y) y x) l.invariant.3 (mark ∙ mark_bits (get_or lane₀ l.p 0) cells₀ l.p)
           ∙ bits_joined (some l.p lane₀ cells₀) (is_marked (get_or lane₀ l.p 0) cells₀ l.p)
           ∙ ap (λ (k : ℕ). all_bits (some k lane₀ cells₀)) (sym (add-one l.p)),
     ))
     (λ c.
-    let l = c.before.loop in
-    let a = c.before.before.before.before.args in
+    let l = c.loop-p in
+    let a = c.args in
     ap length l.invariant.1 ∙ looked_long a.lane.now a.cells.now l.p)
-    (λ c. c.before.loop.invariant.2.long)
+    (λ c. c.loop-p.invariant.2.long)
     (λ c.
-    let l = c.before.loop in
+    let l = c.loop-p in
     let s = c.before.before.before.before in
     let e : l.p ≡ s.args.n = le_antisymm l.invariant.0 (omega arith) in (
       ap (λ (x : ℕ). not (eqb x 0)) (rw e at l.invariant.3) ∙ bits_some _,

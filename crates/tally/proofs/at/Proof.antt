@@ -13,5 +13,5 @@ at_spec =
     (tie.spec
     (λ c. search rules)
     (λ c. search rules)
-    (λ c. omega (arith, side_small _ (c.before.requires.2 c.before.args.p c.before.requires.1)))
-    (λ c. (refl, side_small _ (c.before.requires.2 c.before.args.p c.before.requires.1))))
+    (λ c. omega (arith, side_small _ (c.requires.2 c.args.p c.requires.1)))
+    (λ c. (refl, side_small _ (c.requires.2 c.args.p c.requires.1))))

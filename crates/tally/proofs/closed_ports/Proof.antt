@@ -15,17 +15,17 @@ unfolding tallied closed_in sides_in
 closed_ports_spec =
     tie.close
     (tie.spec
-    (λ c. (simp (ne_eqb _ _ c.if1.true), simp (ne_eqb _ _ c.if1.true)))
-    (λ c. let a = eq-eqb _ _ c.before.if1.false in (simp (a, lt-leb _ _ c.if2.true), simp (a, lt-leb _ _ c.if2.true)))
+    (λ c. (simp (ne_eqb _ _ c.if-cells-ne-CELLS.true), simp (ne_eqb _ _ c.if-cells-ne-CELLS.true)))
+    (λ c. let a = eq-eqb _ _ c.if-cells-ne-CELLS.false in (simp (a, lt-leb _ _ c.if-n-gt-PORTS.true), simp (a, lt-leb _ _ c.if-n-gt-PORTS.true)))
     (λ c.
-    let a = eq-eqb _ _ c.before.before.if1.false in
-    (simp (a, ne_eqb _ _ c.if3.true, and-false), simp (a, ne_eqb _ _ c.if3.true, and-false)))
+    let a = eq-eqb _ _ c.if-cells-ne-CELLS.false in
+    (simp (a, ne_eqb _ _ c.if-lane-ne-PORTS.true, and-false), simp (a, ne_eqb _ _ c.if-lane-ne-PORTS.true, and-false)))
     (λ c κs. search rules)
-    (λ c κs. (rw c.before.before.before.sides.ensures (side_lane_long _ _), rw c.before.before.before.sides.ensures (side_lane_sided _ _)))
-    (λ c. ap length c.before.before.before.before.sides.ensures ∙ side_lane_long _ _ ∙ sym c.before.before.before.before.before.before.if3.false)
+    (λ c κs. (rw c.sides.ensures (side_lane_long _ _), rw c.sides.ensures (side_lane_sided _ _)))
+    (λ c. ap length c.sides.ensures ∙ side_lane_long _ _ ∙ sym c.if-lane-ne-PORTS.false)
     (λ c.
-    let a = eq-eqb _ _ c.before.before.before.before.before.before.before.before.if1.false in
-    let b = le-leb _ _ c.before.before.before.before.before.before.before.if2.false in
-    let l = eq-eqb _ _ c.before.before.before.before.before.before.if3.false in
-    let s = c.before.before.before.before.sides.ensures in
+    let a = eq-eqb _ _ c.if-cells-ne-CELLS.false in
+    let b = le-leb _ _ c.if-n-gt-PORTS.false in
+    let l = eq-eqb _ _ c.if-lane-ne-PORTS.false in
+    let s = c.sides.ensures in
     (simp (a, b, l) (c.masks.ensures ∙ ap named s), simp (a, b, l) s)))

@@ -10,7 +10,7 @@ unfolding tallied drawn_in
 drawn_spec =
     tie.close
     (tie.spec
-    (λ c. simp (ne_eqb _ _ c.if1.true))
-    (λ c. simp (eq-eqb _ _ c.before.if1.false, lt-leb _ _ c.if2.true))
-    (λ c κs. (c.before.if1.false, c.if2.false))
-    (λ c. simp (eq-eqb _ _ c.before.before.if1.false, le-leb _ _ c.before.if2.false) c.sum_drawn.ensures.0))
+    (λ c. simp (ne_eqb _ _ c.if-cells-ne-CELLS.true))
+    (λ c. simp (eq-eqb _ _ c.if-cells-ne-CELLS.false, lt-leb _ _ c.if-n-gt-PORTS.true))
+    (λ c κs. (c.if-cells-ne-CELLS.false, c.if-n-gt-PORTS.false))
+    (λ c. simp (eq-eqb _ _ c.if-cells-ne-CELLS.false, le-leb _ _ c.if-n-gt-PORTS.false) c.sum_drawn.ensures.0))

@@ -20,4 +20,4 @@ draws_at_spec =
     (λ c. search rules)
     (λ c κs. search rules)
     (λ c. search rules)
-    (λ c. (simp (c.pick.ensures.0, c.before.before.is_shut.ensures), c.pick.ensures.1)))
+    (λ c. (simp (c.pick.ensures.0, c.is_shut.ensures), c.pick.ensures.1)))

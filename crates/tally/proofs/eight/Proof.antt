@@ -41,5 +41,5 @@ eight_spec =
     (λ c κs. search rules)
     (λ c. search rules)
     (λ c. search rules)
-    (λ c. omega (arith, c.before.before.before.before.before.before.before.at.ensures.0, c.before.before.before.before.before.before.before.at.ensures.1, c.before.before.before.before.before.before.at2.ensures.0, c.before.before.before.before.before.before.at2.ensures.1, c.before.before.before.before.before.at3.ensures.0, c.before.before.before.before.before.at3.ensures.1, c.before.before.before.before.at4.ensures.0, c.before.before.before.before.at4.ensures.1, c.before.before.before.at5.ensures.0, c.before.before.before.at5.ensures.1, c.before.before.at6.ensures.0, c.before.before.at6.ensures.1, c.before.at7.ensures.0, c.before.at7.ensures.1, c.at8.ensures.0, c.at8.ensures.1))
-    (λ c. omega (arith, c.before.before.before.before.before.before.before.at.ensures.0, c.before.before.before.before.before.before.before.at.ensures.1, c.before.before.before.before.before.before.at2.ensures.0, c.before.before.before.before.before.before.at2.ensures.1, c.before.before.before.before.before.at3.ensures.0, c.before.before.before.before.before.at3.ensures.1, c.before.before.before.before.at4.ensures.0, c.before.before.before.before.at4.ensures.1, c.before.before.before.at5.ensures.0, c.before.before.before.at5.ensures.1, c.before.before.at6.ensures.0, c.before.before.at6.ensures.1, c.before.at7.ensures.0, c.before.at7.ensures.1, c.at8.ensures.0, c.at8.ensures.1)))
+    (λ c. omega (arith, c.at.ensures.0, c.at.ensures.1, c.at-2.ensures.0, c.at-2.ensures.1, c.at-3.ensures.0, c.at-3.ensures.1, c.at-4.ensures.0, c.at-4.ensures.1, c.at-5.ensures.0, c.at-5.ensures.1, c.at-6.ensures.0, c.at-6.ensures.1, c.at-7.ensures.0, c.at-7.ensures.1, c.at-8.ensures.0, c.at-8.ensures.1))
+    (λ c. omega (arith, c.at.ensures.0, c.at.ensures.1, c.at-2.ensures.0, c.at-2.ensures.1, c.at-3.ensures.0, c.at-3.ensures.1, c.at-4.ensures.0, c.at-4.ensures.1, c.at-5.ensures.0, c.at-5.ensures.1, c.at-6.ensures.0, c.at-6.ensures.1, c.at-7.ensures.0, c.at-7.ensures.1, c.at-8.ensures.0, c.at-8.ensures.1)))

@@ -16,10 +16,10 @@ use Rattle.tally.proofs.Tally.{weighed_low, weighed_high}
 use Rattle.tally.proofs.masks.Statement.{statement}
 use Rattle.tally.proofs.masks.Tie as tie
 
-abbrev invariant_loop : tie.invariant_loop
+abbrev invariant_loop : tie.invariant-loop-k
 invariant_loop lane a₀ b₀ k₀ a b k = (k ≤ 6) × (a ≡ mask (8 * k) (is_a lane)) × (b ≡ mask (8 * k) (is_b lane))
 
-abbrev decreases_loop : tie.decreases_loop
+abbrev decreases_loop : tie.decreases-loop-k
 decreases_loop lane a₀ b₀ k₀ a b k = 6 - k
 
 below : (m x : ℕ) (f : ℕ → Bool) → x ≡ mask m f → x < 2 ^ m
@@ -43,29 +43,29 @@ masks_spec =
     decreases_loop
     (λ c. (omega arith, refl, refl))
     (λ c. omega arith)
-    (λ c κs. (c.before.before.before.requires.0, omega arith, c.before.before.before.requires.1))
-    (λ c κs. (below _ _ (is_a c.before.before.before.before.args.lane.now) c.before.before.loop.invariant.1, omega arith, omega arith))
+    (λ c κs. (c.requires.0, omega arith, c.requires.1))
+    (λ c κs. (below _ _ (is_a c.args.lane.now) c.loop-k.invariant.1, omega arith, omega arith))
     (λ c κs.
-    let l = c.before.before.before.loop in
+    let l = c.loop-k in
     let s = c.before.before.before.before.before in
     let lane = s.args.lane.now in
-    (below _ _ (is_b lane) l.invariant.2, omega (arith, c.before.eight.ensures, weighed_high lane (8 * l.k) s.requires.1 (omega arith), mask_below 8 (λ j. is_b lane (8 * l.k + j))), omega arith))
+    (below _ _ (is_b lane) l.invariant.2, omega (arith, c.eight-both.ensures, weighed_high lane (8 * l.k) s.requires.1 (omega arith), mask_below 8 (λ j. is_b lane (8 * l.k + j))), omega arith))
     (λ c. omega arith)
     (λ c. omega arith)
     (λ c.
-    let l = c.before.before.before.before.loop in
+    let l = c.loop-k in
     let s = c.before.before.before.before.before.before in
     let lane = s.args.lane.now in
-    let w = c.before.before.eight.ensures in (
+    let w = c.eight-both.ensures in (
       omega arith,
-      more (is_a lane) l.k l.a _ _ l.invariant.1 (ap (λ (x : ℕ). x % 256) w ∙ weighed_low lane (8 * l.k) s.requires.1 (omega arith)) c.before.placed.ensures,
-      more (is_b lane) l.k l.b _ _ l.invariant.2 (ap (λ (x : ℕ). x / 256) w ∙ weighed_high lane (8 * l.k) s.requires.1 (omega arith)) c.placed2.ensures,
+      more (is_a lane) l.k l.a _ _ l.invariant.1 (ap (λ (x : ℕ). x % 256) w ∙ weighed_low lane (8 * l.k) s.requires.1 (omega arith)) c.placed-a.ensures,
+      more (is_b lane) l.k l.b _ _ l.invariant.2 (ap (λ (x : ℕ). x / 256) w ∙ weighed_high lane (8 * l.k) s.requires.1 (omega arith)) c.placed-b.ensures,
     ))
     (λ c.
-    let l = c.before.loop in
-    let lane = c.before.before.before.args.lane.now in
+    let l = c.loop-k in
+    let lane = c.args.lane.now in
     omega (arith, few l.k l.a (is_a lane) l.invariant.1 l.invariant.0, few l.k l.b (is_b lane) l.invariant.2 l.invariant.0))
     (λ c.
-    let l = c.before.loop in
-    let e : l.k ≡ 6 = le_antisymm l.invariant.0 c.loop-test.false in
+    let l = c.loop-k in
+    let e : l.k ≡ 6 = le_antisymm l.invariant.0 c.loop-k-test.false in
     ap₂ (λ (x y : ℕ). Ports x y (ones x + ones y)) (rw e at l.invariant.1) (rw e at l.invariant.2)))

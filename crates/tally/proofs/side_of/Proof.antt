@@ -38,5 +38,5 @@ side_of_spec =
     (λ c κs. search rules)
     (λ c κs. search rules)
     (λ c.
-    let a = c.before.before.before.before.args in
-    simp (c.pick3.ensures.0, c.before.pick2.ensures.0, c.before.before.pick.ensures.0, c.before.before.before.is_shut.ensures) (picked (state_of a.state) a.control)))
+    let a = c.args in
+    simp (c.pick-3.ensures.0, c.pick-2.ensures.0, c.pick.ensures.0, c.is_shut.ensures) (picked (state_of a.state) a.control)))

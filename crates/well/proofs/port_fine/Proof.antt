@@ -42,12 +42,12 @@ port_fine_spec =
     (λ c. search rules)
     (λ c. search rules)
     (λ c.
-    let a = c.before.before.before.before.before.before.before.before.before.args in
+    let a = c.args in
     let l = a.cells.now in
     simp (
-      c.before.before.before.before.before.before.before.top.ensures,
-      c.before.before.before.before.control_fine.ensures,
-      c.before.before.demand_fine.ensures,
+      c.top.ensures,
+      c.control_fine.ensures,
+      c.demand_fine.ensures,
       well_port_is,
     )
     (six (well_counts (counts_of l a.p)) (leb (get_or l (152 + a.p) 0) 4) (not (refused (get_or l (56 + a.p) 0))) (is_demand (tenths (get_or l (104 + a.p) 0))) (leb (get_or l (8 + a.p) 0) 9) (ltb (get_or l (200 + a.p) 0) 256))))

@@ -39,4 +39,4 @@ top_spec =
     (λ c. search rules)
     (λ c κs. search rules)
     (λ c κs. search rules)
-    (λ c. simp (c.greater6.ensures, c.before.greater5.ensures, c.before.before.before.greater4.ensures, c.before.before.before.before.before.before.greater3.ensures, c.before.before.before.before.before.before.before.greater2.ensures, c.before.before.before.before.before.before.before.before.before.before.greater.ensures, max_small, and_assoc)))
+    (λ c. simp (c.greater-6.ensures, c.greater-5.ensures, c.greater-4.ensures, c.greater-3.ensures, c.greater-2.ensures, c.greater.ensures, max_small, and_assoc)))

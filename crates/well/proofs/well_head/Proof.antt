@@ -10,8 +10,8 @@ unfolding head_cells
 well_head_spec =
     tie.close
     (tie.spec
-    (λ c. simp (ne_eqb _ _ c.if1.true))
+    (λ c. simp (ne_eqb _ _ c.if-cells-ne-CELLS.true))
     (λ c. search rules)
     (λ c. search rules)
     (λ c κs. search rules)
-    (λ c. simp (eq-eqb _ _ c.before.before.before.if1.false) c.head_fine.ensures))
+    (λ c. simp (eq-eqb _ _ c.if-cells-ne-CELLS.false) c.head_fine.ensures))
