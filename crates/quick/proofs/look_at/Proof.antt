@@ -64,7 +64,7 @@ mark_unless_requires c κs = search rules
 -- src/lib.rt:72:1
 returns : tie.Need-returns
 unfolding looked signs_by
-returns c = simp (c.mark_unless-mark.ensures, c.pick-3.ensures, c.pick-2.ensures, c.pick.ensures, c.counted-4.ensures, c.counted-3.ensures, c.counted-2.ensures, c.counted.ensures, c.running-gone.ensures, c.running-overload.ensures, c.running-limiting.ensures, c.wrapping_add_u16-key.ensures)
+returns c = simp (c.mark_unless-mark.ensures, c.pick-3.ensures, c.pick-2.ensures, c.pick.ensures, c.counted-4.ensures, c.counted-3.ensures, c.counted-2.ensures, c.counted.ensures, c.running-gone.ensures, c.running-overload.ensures, c.running-limiting.ensures, c.wrapping_add_u16-key.ensures.value)
 
 pub look_at_spec : {M : Type 1} → statement M
 look_at_spec =

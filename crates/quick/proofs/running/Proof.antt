@@ -11,7 +11,7 @@ wrapping_add_u16_requires c κs = search rules
 
 -- src/lib.rt:60:1
 returns : tie.Need-returns-then-runs
-returns c = simp c.if-runs.true c.wrapping_add_u16.ensures
+returns c = simp c.if-runs.true c.wrapping_add_u16.ensures.value
 
 -- src/lib.rt:60:1
 returns_2 : tie.Need-returns-else-runs

@@ -72,7 +72,7 @@ returns c =
     let l = a.cells.now in
     let seen = c.look_at-seen in
     let e : seen.result ≡ looked_at a.flags l a.p = seen.ensures ∙ ap (looked (get_or l (8 + a.p) 0) (get_or l (56 + a.p) 0 % 4) (get_or l (104 + a.p) 0) (signs_by a.flags)) c.counts_at-before.ensures in
-    (ap (λ (x : Look). x.mark) e, c.put_counts.ensures ∙ ap (λ (x : Look). with_count_cells a.p x.counts l) e)
+    record { value = ap (λ (x : Look). x.mark) e; cells_after = c.put_counts.ensures ∙ ap (λ (x : Look). with_count_cells a.p x.counts l) e }
 
 pub sweep_port_spec : {M : Type 1} → statement M
 sweep_port_spec =
