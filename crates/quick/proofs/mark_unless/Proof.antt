@@ -33,5 +33,5 @@ mark_unless_spec =
     (λ c κs. search rules)
     (λ c.
     let a = c.args in
-    simp (c.pick-4.ensures, c.wrapping-add-u162.ensures, c.pick-3.ensures, c.wrapping_add_u16-two.ensures.value, c.pick-2.ensures, c.pick.ensures)
+    simp (c.pick-4.ensures, c.wrapping_add_u16-three.ensures, c.pick-3.ensures, c.wrapping_add_u16-two.ensures, c.pick-2.ensures, c.pick.ensures)
     (added a.a a.b a.c ∙ none ((a.a || a.b) || a.c))))

@@ -18,7 +18,7 @@ sweep_spec =
     (λ c.
     let a = c.args in
     let e : sweepable a.cells.now a.lane.now ≡ false = sym c.is_sweepable.ensures ∙ c.if-not-is_sweepable.true in
-    record { value = simp e; cells_after = simp e; lane_after = simp e })
+    (simp e, (simp e, simp e)))
     (λ c.
     let a = c.args in
     let e : sweepable a.cells.now a.lane.now ≡ true = sym c.is_sweepable.ensures ∙ c.if-not-is_sweepable.false in
@@ -37,4 +37,4 @@ sweep_spec =
     let a = c.args in
     let e : sweepable a.cells.now a.lane.now ≡ true = sym c.is_sweepable.ensures ∙ c.if-not-is_sweepable.false in
     let s = c.sweep_all.ensures in
-    record { value = simp e s.value; cells_after = simp e s.cells_after; lane_after = simp e s.lane_after }))
+    (simp e s.0, (simp e s.1.0, simp e s.1.1))))

@@ -74,4 +74,10 @@ sweep_all_spec =
     (λ c.
     let l = c.loop-p in
     let s = c.before.before.before.before in
-    let e : l.p ≡ s.args.n = le_antisymm l.invariant.0 (omega arith) in record { value = ap (λ (x : ℕ). not (eqb x 0)) (rw e at l.invariant.3) ∙ bits_some _; cells_after = rw e at l.invariant.1; lane_after = filled_below 0 (marks s.args.lane.now s.args.cells.now) s.args.lane.now most_ports s.args.n l.lane s.requires.2 (rw e at l.invariant.2) }))
+    let e : l.p ≡ s.args.n = le_antisymm l.invariant.0 (omega arith) in (
+      ap (λ (x : ℕ). not (eqb x 0)) (rw e at l.invariant.3) ∙ bits_some _,
+      (
+        rw e at l.invariant.1,
+        filled_below 0 (marks s.args.lane.now s.args.cells.now) s.args.lane.now most_ports s.args.n l.lane s.requires.2 (rw e at l.invariant.2),
+      ),
+    )))
