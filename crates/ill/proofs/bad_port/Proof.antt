@@ -28,7 +28,7 @@ bad_port_spec =
     (λ c. search rules)
     (λ c. search rules)
     (λ c. search rules)
-    (λ c. omega (arith, c.shared-slice-known5.given (56 + c.before.before.before.before.before.before.args.p)))
+    (λ c. omega (arith, c.shared_slice_known-5-1.given (56 + c.args.p)))
     (λ c κs. search rules)
     (λ c. search rules)
     (λ c. search rules)
@@ -36,8 +36,8 @@ bad_port_spec =
     (λ c κs. search rules)
     (λ c.
     simp (
-      c.before.before.before.before.before.bad_counter.ensures,
-      c.before.before.bad_word.ensures,
+      c.bad_counter.ensures,
+      c.bad_word.ensures,
       c.bad_demand.ensures,
       holds_not,
       or_assoc,

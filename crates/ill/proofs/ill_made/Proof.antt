@@ -25,10 +25,10 @@ short : (l : List ℕ) → (length l ≡ 728 → ⊥) → head_cells l ≡ false
 unfolding head_cells
 short l n = simp (ne_eqb _ _ n)
 
-abbrev invariant_loop : tie.invariant_loop
+abbrev invariant_loop : tie.invariant-loop-p
 invariant_loop cells count ill₀ p₀ ill p = (p ≤ count) × (ill ≡ not (every p (port_fine cells)))
 
-abbrev decreases_loop : tie.decreases_loop
+abbrev decreases_loop : tie.decreases-loop-p
 decreases_loop cells count ill₀ p₀ ill p = count - p
 
 pub ill_made_spec : {M : Type 1} → statement M
@@ -38,29 +38,29 @@ ill_made_spec =
     (tie.spec
     invariant_loop
     decreases_loop
-    (λ c. no_head c.before.before.args.cells.now (short c.before.before.args.cells.now c.if1.true))
+    (λ c. no_head c.args.cells.now (short c.args.cells.now c.if-cells-ne728.true))
     (λ c. omega arith)
-    (λ c. omega (arith, c.shared-slice-known2.given 0))
+    (λ c. omega (arith, c.shared_slice_known-2-1.given 0))
     (λ c. omega arith)
     (λ c.
-    let l = c.before.before.before.before.before.args.cells.now in
-    no_head l (not-true (head_cells l) (sym (head_ill l c.before.before.before.if1.false) ∙ c.if2.true)))
+    let l = c.args.cells.now in
+    no_head l (not-true (head_cells l) (sym (head_ill l c.if-cells-ne728.false) ∙ c.if-count-cells.true)))
     (λ c. (omega arith, refl))
     (λ c κs.
-    let l = c.before.before.before.before.before.before.before.args.cells.now in
-    let h = not-false (head_cells l) (sym (head_ill l c.before.before.before.before.before.if1.false) ∙ c.before.before.if2.false) in
+    let l = c.args.cells.now in
+    let h = not-false (head_cells l) (sym (head_ill l c.if-cells-ne728.false) ∙ c.if-count-cells.false) in
     (head_long l h, omega (arith, head_count l h)))
     (λ c.
-    let l = c.before.before.before.before.before.before.before.before.args.cells.now in
-    let h = not-false (head_cells l) (sym (head_ill l c.before.before.before.before.before.before.if1.false) ∙ c.before.before.before.if2.false) in
+    let l = c.args.cells.now in
+    let h = not-false (head_cells l) (sym (head_ill l c.if-cells-ne728.false) ∙ c.if-count-cells.false) in
     omega (arith, head_count l h))
     (λ c. omega arith)
     (λ c.
-    let k = c.before.before.loop in
-    let l = c.before.before.before.before.before.before.before.before.args.cells.now in
-    (omega arith, ap₂ ◌||◌ k.invariant.1 (c.bad_port.ensures ∙ ill_at_is l k.p) ∙ either_is (every k.p (port_fine l)) (port_fine l k.p) ∙ ap not (sym (every_next k.p (port_fine l)))))
+    let k = c.loop-p in
+    let l = c.args.cells.now in
+    (omega arith, ap₂ ◌||◌ k.invariant.1 (c.bad_port-ill.ensures ∙ ill_at_is l k.p) ∙ either_is (every k.p (port_fine l)) (port_fine l k.p) ∙ ap not (sym (every_next k.p (port_fine l)))))
     (λ c.
-    let l = c.before.before.before.before.before.before.before.args.cells.now in
-    let h = not-false (head_cells l) (sym (head_ill l c.before.before.before.before.before.if1.false) ∙ c.before.before.if2.false) in
-    let e : c.before.loop.p ≡ count_cell l = le_antisymm c.before.loop.invariant.0 (omega arith) in
-    c.before.loop.invariant.1 ∙ ap (λ (n : ℕ). not (every n (port_fine l))) e ∙ sym (ill_parts l ∙ simp h)))
+    let l = c.args.cells.now in
+    let h = not-false (head_cells l) (sym (head_ill l c.if-cells-ne728.false) ∙ c.if-count-cells.false) in
+    let e : c.loop-p.p ≡ count_cell l = le_antisymm c.loop-p.invariant.0 (omega arith) in
+    c.loop-p.invariant.1 ∙ ap (λ (n : ℕ). not (every n (port_fine l))) e ∙ sym (ill_parts l ∙ simp h)))

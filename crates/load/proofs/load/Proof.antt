@@ -13,12 +13,12 @@ unfolding restores cells_restored
 load_spec =
     tie.close
     (tie.spec
-    (λ c. let e = ne_eqb _ _ c.if1.true in (simp (e, and-false), simp (e, and-false)))
+    (λ c. let e = ne_eqb _ _ c.if-cells-ne-CELLS.true in (simp (e, and-false), simp (e, and-false)))
     (λ c κs. search rules)
-    (λ c. let e = sym c.before.reads.ensures ∙ not-true c.before.reads.result c.if2.true in (simp e, simp e))
-    (λ c κs. (sym c.before.before.reads.ensures ∙ not-false c.before.before.reads.result c.before.if2.false, c.before.before.before.if1.false))
+    (λ c. let e = sym c.reads.ensures ∙ c.if-not-reads.true in (simp e, simp e))
+    (λ c κs. (sym c.reads.ensures ∙ c.if-not-reads.false, c.if-cells-ne-CELLS.false))
     (λ c. search rules)
     (λ c.
-    let e = sym c.before.before.before.before.before.reads.ensures ∙ not-false c.before.before.before.before.before.reads.result c.before.before.before.before.if2.false in
-    let f = eq-eqb _ _ c.before.before.before.before.before.before.if1.false in
-    (simp (e, f), simp (e, f) c.before.before.put.ensures)))
+    let e = sym c.reads.ensures ∙ c.if-not-reads.false in
+    let f = eq-eqb _ _ c.if-cells-ne-CELLS.false in
+    (simp (e, f), simp (e, f) c.put.ensures)))

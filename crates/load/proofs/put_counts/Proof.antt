@@ -50,11 +50,11 @@ put_counts_spec =
     (λ c. simp length-set)
     (λ c.
     simp (
-      c.word_at7.ensures,
-      c.before.word_at6.ensures,
-      c.before.before.word_at5.ensures,
-      c.before.before.before.word_at4.ensures,
-      c.before.before.before.before.word_at3.ensures,
-      c.before.before.before.before.before.word_at2.ensures,
-      c.before.before.before.before.before.before.word_at.ensures,
+      c.word_at-7.ensures,
+      c.word_at-6.ensures,
+      c.word_at-5.ensures,
+      c.word_at-4.ensures,
+      c.word_at-3.ensures,
+      c.word_at-2.ensures,
+      c.word_at.ensures,
     )))

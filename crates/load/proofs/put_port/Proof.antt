@@ -18,7 +18,7 @@ put_port_spec =
     tie.close
     (tie.spec
     (λ c. search rules)
-    (λ c. omega (arith, c.shared-slice-known2.given c.before.before.before.args.at))
+    (λ c. omega (arith, c.shared_slice_known-2-1.given c.args.at))
     (λ c. search rules)
     (λ c. search rules)
     (λ c. search rules)
@@ -34,23 +34,23 @@ put_port_spec =
     (λ c. simp length-set (omega arith))
     (λ c. search rules)
     (λ c. search rules)
-    (λ c. omega (arith, c.shared-slice-known3.given (c.before.before.before.before.before.before.args.at + 3)))
+    (λ c. omega (arith, c.shared_slice_known-3-1.given (c.args.at + 3)))
     (λ c. search rules)
     (λ c. search rules)
     (λ c. simp length-set (omega arith))
     (λ c. search rules)
     (λ c. search rules)
-    (λ c. omega (arith, c.shared-slice-known4.given (c.before.before.before.before.before.before.before.args.at + 6)))
+    (λ c. omega (arith, c.shared_slice_known-4-1.given (c.args.at + 6)))
     (λ c. search rules)
     (λ c. search rules)
     (λ c. simp length-set (omega arith))
     (λ c. search rules)
     (λ c κs. (omega arith, (simp length-set (omega arith), omega arith)))
-    (λ c. ap length c.before.before.put_counts.ensures ∙ simp length-set)
+    (λ c. ap length c.put_counts.ensures ∙ simp length-set)
     (λ c.
     let start = c.before.before.before.before.before.before.before.before.before.before.before in
     let bytes = start.args.bytes.now in
     let reads = start.requires.1.0 in
-    let latch : get_or bytes (start.args.at + 6) 0 < 256 = omega (arith, c.before.before.before.before.shared-slice-known4.given (start.args.at + 6)) in
-    c.before.before.put_counts.ensures
-    ∙ simp (c.before.before.before.before.before.before.before.word_at.ensures, c.before.before.before.before.before.before.word_at2.ensures, state_code bytes start.args.at reads, latches_again (get_or bytes (start.args.at + 6) 0) latch)))
+    let latch : get_or bytes (start.args.at + 6) 0 < 256 = omega (arith, c.shared_slice_known-4-1.given (start.args.at + 6)) in
+    c.put_counts.ensures
+    ∙ simp (c.word_at.ensures, c.word_at-2.ensures, state_code bytes start.args.at reads, latches_again (get_or bytes (start.args.at + 6) 0) latch)))

@@ -15,10 +15,10 @@ use Rattle.image.specs.Load.{port_reads, reads}
 use Rattle.load.proofs.reads.Statement.{statement}
 use Rattle.load.proofs.reads.Tie as tie
 
-abbrev invariant_loop : tie.invariant_loop
+abbrev invariant_loop : tie.invariant-loop-p
 invariant_loop bytes p₀ p = (p ≤ most_ports) × (every p (λ q. port_reads bytes (6 + image_port * q)) ≡ true)
 
-abbrev decreases_loop : tie.decreases_loop
+abbrev decreases_loop : tie.decreases-loop-p
 decreases_loop bytes p₀ p = most_ports - p
 
 pub reads_spec : {M : Type 1} → statement M
@@ -28,27 +28,27 @@ reads_spec =
     (tie.spec
     invariant_loop
     decreases_loop
-    (λ c. simp (ne_eqb _ _ c.if1.true))
+    (λ c. simp (ne_eqb _ _ c.if-bytes-ne-IMAGE.true))
     (λ c κs. search rules)
-    (λ c. simp (eq-eqb _ _ c.before.before.if1.false, ne_eqb _ _ (λ e. c.if2.true (c.before.word_at.ensures ∙ e))))
+    (λ c. simp (eq-eqb _ _ c.if-bytes-ne-IMAGE.false, ne_eqb _ _ (λ e. c.if-word_at-ne0.true (c.word_at.ensures ∙ e))))
     (λ c. (search rules, refl))
     (λ c. search rules)
     (λ c. search rules)
     (λ c κs. search rules)
     (λ c.
-    let f : ℕ → Bool = λ p. port_reads c.before.before.before.before.before.before.before.before.args.bytes.now (6 + image_port * p) in
+    let f : ℕ → Bool = λ p. port_reads c.args.bytes.now (6 + image_port * p) in
     simp (
-      eq-eqb _ _ c.before.before.before.before.before.before.if1.false,
-      eq-eqb _ _ (sym c.before.before.before.before.before.word_at.ensures ∙ c.before.before.before.before.if2.false),
-      every_not most_ports f c.before.before.before.loop.p c.before.before.loop-test.true (sym c.before.port_reads.ensures ∙ not-true c.before.port_reads.result c.if3.true),
+      eq-eqb _ _ c.if-bytes-ne-IMAGE.false,
+      eq-eqb _ _ (sym c.word_at.ensures ∙ c.if-word_at-ne0.false),
+      every_not most_ports f c.loop-p.p c.loop-p-test.true (sym c.port_reads.ensures ∙ c.if-not-port_reads.true),
     ))
     (λ c. search rules)
     (λ c. search rules)
     (λ c. (
       omega arith,
-      every_next c.before.before.before.loop.p _ ∙ ap₂ ◌&&◌ c.before.before.before.loop.invariant.1 (sym c.before.port_reads.ensures ∙ not-false c.before.port_reads.result c.if3.false),
+      every_next c.loop-p.p _ ∙ ap₂ ◌&&◌ c.loop-p.invariant.1 (sym c.port_reads.ensures ∙ c.if-not-port_reads.false),
     ))
     (λ c.
-    let f : ℕ → Bool = λ p. port_reads c.before.before.before.before.before.before.args.bytes.now (6 + image_port * p) in
-    let e : every most_ports f ≡ true = ap (λ (k : ℕ). every k f) (le_antisymm c.loop-test.false c.before.loop.invariant.0) ∙ c.before.loop.invariant.1 in
-    simp (eq-eqb _ _ c.before.before.before.before.if1.false, eq-eqb _ _ (sym c.before.before.before.word_at.ensures ∙ c.before.before.if2.false), e)))
+    let f : ℕ → Bool = λ p. port_reads c.args.bytes.now (6 + image_port * p) in
+    let e : every most_ports f ≡ true = ap (λ (k : ℕ). every k f) (le_antisymm c.loop-p-test.false c.loop-p.invariant.0) ∙ c.loop-p.invariant.1 in
+    simp (eq-eqb _ _ c.if-bytes-ne-IMAGE.false, eq-eqb _ _ (sym c.word_at.ensures ∙ c.if-word_at-ne0.false), e)))

@@ -13,12 +13,12 @@ word_at_spec =
     tie.close
     (tie.spec
     (λ c. search rules)
-    (λ c. omega (arith, c.shared-slice-known.given c.before.args.at))
-    (λ c. omega (arith, c.shared-slice-known.given c.before.args.at))
+    (λ c. omega (arith, c.shared_slice_known-1.given c.args.at))
+    (λ c. omega (arith, c.shared_slice_known-1.given c.args.at))
     (λ c. search rules)
     (λ c. search rules)
-    (λ c. let a = c.before.before.args in omega (arith, c.shared-slice-known2.given (a.at + 1)))
+    (λ c. let a = c.args in omega (arith, c.shared_slice_known-2-1.given (a.at + 1)))
     (λ c.
-    let a = c.before.before.args in
-    omega (arith, c.shared-slice-known2.given a.at, c.shared-slice-known2.given (a.at + 1)))
+    let a = c.args in
+    omega (arith, c.shared_slice_known-2-1.given a.at, c.shared_slice_known-2-1.given (a.at + 1)))
     (λ c. omega arith))

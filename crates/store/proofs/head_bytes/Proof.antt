@@ -17,4 +17,4 @@ head_bytes_spec =
     (λ c κs. search rules)
     (λ c κs. search rules)
     (λ c κs. search rules)
-    (λ c. simp (c.before.before.before.high.ensures, c.before.before.low.ensures, c.before.high2.ensures, c.low2.ensures)))
+    (λ c. simp (c.high.ensures, c.low.ensures, c.high-2.ensures, c.low-2.ensures)))

@@ -14,10 +14,10 @@ use Rattle.image.specs.Image.{port_saves, imageable}
 use Rattle.store.proofs.imageable.Statement.{statement}
 use Rattle.store.proofs.imageable.Tie as tie
 
-abbrev invariant_loop : tie.invariant_loop
+abbrev invariant_loop : tie.invariant-loop-p
 invariant_loop cells p₀ p = (p ≤ most_ports) × (every p (port_saves cells) ≡ true)
 
-abbrev decreases_loop : tie.decreases_loop
+abbrev decreases_loop : tie.decreases-loop-p
 decreases_loop cells p₀ p = most_ports - p
 
 pub imageable_spec : {M : Type 1} → statement M
@@ -27,23 +27,23 @@ imageable_spec =
     (tie.spec
     invariant_loop
     decreases_loop
-    (λ c. simp (ne_eqb _ _ c.if1.true))
+    (λ c. simp (ne_eqb _ _ c.if-cells-ne-CELLS.true))
     (λ c. (search rules, refl))
     (λ c κs. search rules)
     (λ c.
-    let at = c.before.before.before.loop.p in
-    let now = c.before.before.before.before.before.before.args.cells.now in
+    let at = c.loop-p.p in
+    let now = c.args.cells.now in
     simp (
-      eq-eqb _ _ c.before.before.before.before.if1.false,
-      every_not most_ports (port_saves now) at c.before.before.loop-test.true (sym c.before.port_saves.ensures ∙ not-true c.before.port_saves.result c.if2.true),
+      eq-eqb _ _ c.if-cells-ne-CELLS.false,
+      every_not most_ports (port_saves now) at c.loop-p-test.true (sym c.port_saves.ensures ∙ c.if-not-port_saves.true),
     ))
     (λ c. search rules)
     (λ c. search rules)
     (λ c. (
       omega arith,
-      every_next c.before.before.before.loop.p _ ∙ ap₂ ◌&&◌ c.before.before.before.loop.invariant.1 (sym c.before.port_saves.ensures ∙ not-false c.before.port_saves.result c.if2.false),
+      every_next c.loop-p.p _ ∙ ap₂ ◌&&◌ c.loop-p.invariant.1 (sym c.port_saves.ensures ∙ c.if-not-port_saves.false),
     ))
     (λ c.
-    let now = c.before.before.before.before.args.cells.now in
-    let e : every most_ports (port_saves now) ≡ true = ap (λ (k : ℕ). every k (port_saves now)) (le_antisymm c.loop-test.false c.before.loop.invariant.0) ∙ c.before.loop.invariant.1 in
-    simp (eq-eqb _ _ c.before.before.if1.false, e)))
+    let now = c.args.cells.now in
+    let e : every most_ports (port_saves now) ≡ true = ap (λ (k : ℕ). every k (port_saves now)) (le_antisymm c.loop-p-test.false c.loop-p.invariant.0) ∙ c.loop-p.invariant.1 in
+    simp (eq-eqb _ _ c.if-cells-ne-CELLS.false, e)))

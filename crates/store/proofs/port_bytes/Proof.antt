@@ -75,24 +75,24 @@ port_bytes_spec =
     let start = c.before.before.before.before.before.before.before.before.before.before.before.before.before.before.before.before.before.before.before.before.before.before.before.before.before.before.before.before.before.before.before.before.before.before in
     let l = start.args.cells.now in
     let p = start.args.p in
-    ap₂ ◌∷◌ (c.before.before.before.before.before.before.before.before.before.before.before.before.before.before.before.before.before.before.before.before.low.ensures ∙ state_byte l p start.requires.1.1)
-    (ap₂ ◌∷◌ c.before.before.before.before.before.before.before.before.before.before.before.before.before.before.before.before.before.before.before.high.ensures
-    (ap₂ ◌∷◌ c.before.before.before.before.before.before.before.before.before.before.before.before.before.before.before.before.before.before.low2.ensures
-    (ap₂ ◌∷◌ (c.before.before.before.before.before.before.before.before.before.before.before.before.before.before.before.before.before.low3.ensures ∙ class_byte l p start.requires.1.1)
-    (ap₂ ◌∷◌ c.before.before.before.before.before.before.before.before.before.before.before.before.before.before.before.before.high2.ensures
-    (ap₂ ◌∷◌ c.before.before.before.before.before.before.before.before.before.before.before.before.before.before.before.low4.ensures
-    (ap₂ ◌∷◌ (c.before.before.before.before.before.before.before.before.before.before.before.before.before.before.low5.ensures ∙ latch_byte_lem l p start.requires.1.1)
-    (ap₂ ◌∷◌ c.before.before.before.before.before.before.before.before.before.before.before.before.before.high3.ensures
-    (ap₂ ◌∷◌ c.before.before.before.before.before.before.before.before.before.before.before.before.low6.ensures
-    (ap₂ ◌∷◌ c.before.before.before.before.before.before.before.before.before.before.before.high4.ensures
-    (ap₂ ◌∷◌ c.before.before.before.before.before.before.before.before.before.before.low7.ensures
-    (ap₂ ◌∷◌ c.before.before.before.before.before.before.before.before.before.high5.ensures
-    (ap₂ ◌∷◌ c.before.before.before.before.before.before.before.before.low8.ensures
-    (ap₂ ◌∷◌ c.before.before.before.before.before.before.before.high6.ensures
-    (ap₂ ◌∷◌ c.before.before.before.before.before.before.low9.ensures
-    (ap₂ ◌∷◌ c.before.before.before.before.before.high7.ensures
-    (ap₂ ◌∷◌ c.before.before.before.before.low10.ensures
-    (ap₂ ◌∷◌ c.before.before.before.high8.ensures
-    (ap₂ ◌∷◌ c.before.before.low11.ensures
-    (ap₂ ◌∷◌ c.before.high9.ensures
-    (ap₂ ◌∷◌ c.low12.ensures refl))))))))))))))))))))))
+    ap₂ ◌∷◌ (c.low.ensures ∙ state_byte l p start.requires.1.1)
+    (ap₂ ◌∷◌ c.high.ensures
+    (ap₂ ◌∷◌ c.low-2.ensures
+    (ap₂ ◌∷◌ (c.low-3.ensures ∙ class_byte l p start.requires.1.1)
+    (ap₂ ◌∷◌ c.high-2.ensures
+    (ap₂ ◌∷◌ c.low-4.ensures
+    (ap₂ ◌∷◌ (c.low-5.ensures ∙ latch_byte_lem l p start.requires.1.1)
+    (ap₂ ◌∷◌ c.high-3.ensures
+    (ap₂ ◌∷◌ c.low-6.ensures
+    (ap₂ ◌∷◌ c.high-4.ensures
+    (ap₂ ◌∷◌ c.low-7.ensures
+    (ap₂ ◌∷◌ c.high-5.ensures
+    (ap₂ ◌∷◌ c.low-8.ensures
+    (ap₂ ◌∷◌ c.high-6.ensures
+    (ap₂ ◌∷◌ c.low-9.ensures
+    (ap₂ ◌∷◌ c.high-7.ensures
+    (ap₂ ◌∷◌ c.low-10.ensures
+    (ap₂ ◌∷◌ c.high-8.ensures
+    (ap₂ ◌∷◌ c.low-11.ensures
+    (ap₂ ◌∷◌ c.high-9.ensures
+    (ap₂ ◌∷◌ c.low-12.ensures refl))))))))))))))))))))))

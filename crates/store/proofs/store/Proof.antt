@@ -13,12 +13,12 @@ unfolding saves room_after
 store_spec =
     tie.close
     (tie.spec
-    (λ c. let e = ne_eqb _ _ c.if1.true in (simp (e, and-false), simp (e, and-false)))
+    (λ c. let e = ne_eqb _ _ c.if-room-ne-IMAGE.true in (simp (e, and-false), simp (e, and-false)))
     (λ c κs. search rules)
-    (λ c. let e = sym c.before.imageable.ensures ∙ not-true c.before.imageable.result c.if2.true in (simp e, simp e))
-    (λ c κs. (sym c.before.before.imageable.ensures ∙ not-false c.before.before.imageable.result c.before.if2.false, c.before.before.before.if1.false))
+    (λ c. let e = sym c.imageable.ensures ∙ c.if-not-imageable.true in (simp e, simp e))
+    (λ c κs. (sym c.imageable.ensures ∙ c.if-not-imageable.false, c.if-room-ne-IMAGE.false))
     (λ c. search rules)
     (λ c.
-    let e = sym c.before.before.before.before.before.imageable.ensures ∙ not-false c.before.before.before.before.before.imageable.result c.before.before.before.before.if2.false in
-    let f = eq-eqb _ _ c.before.before.before.before.before.before.if1.false in
-    (simp (e, f), simp (e, f) c.before.before.put.ensures)))
+    let e = sym c.imageable.ensures ∙ c.if-not-imageable.false in
+    let f = eq-eqb _ _ c.if-room-ne-IMAGE.false in
+    (simp (e, f), simp (e, f) c.put.ensures)))
