@@ -1,3 +1,2 @@
 // What is claimed of the core as a whole: definitions and theorems in specs/, and no code.
 #![tactic(auto)]
-

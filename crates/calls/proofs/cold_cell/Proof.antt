@@ -9,6 +9,6 @@ unfolding cold_cell
 cold_cell_spec =
     tie.close
     (tie.spec
-    (λ c. simp (eq-eqb _ _ c.if1.true))
-    (λ c. simp (ne_eqb _ _ c.before.if1.false, c.if2.true))
-    (λ c. simp (ne_eqb _ _ c.before.if1.false, c.if2.false)))
+    (λ c. simp (eq-eqb _ _ c.if-k-eq0.true))
+    (λ c. simp (ne_eqb _ _ c.if-k-eq0.false, c.if-k.true))
+    (λ c. simp (ne_eqb _ _ c.if-k-eq0.false, c.if-k.false)))

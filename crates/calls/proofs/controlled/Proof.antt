@@ -32,9 +32,9 @@ controlled_spec =
     let p = s.args.p in
     let w = s.args.word in
     let t = table_of l in
-    let e : control_rest l p w ≡ refuse 3 t = simp (sym c.before.refused.ensures ∙ c.if1.true) in
+    let e : control_rest l p w ≡ refuse 3 t = simp (sym c.refused.ensures ∙ c.if-refused.true) in
     told_refused (control_rest l p w) t l 3 e)
-    (λ c. omega (arith, taken_small c.before.before.before.args.word (sym c.before.refused.ensures ∙ c.if1.false)))
+    (λ c. omega (arith, taken_small c.args.word (sym c.refused.ensures ∙ c.if-refused.false)))
     (λ c. search rules)
     (λ c. search rules)
     (λ c. search rules)
@@ -48,8 +48,8 @@ controlled_spec =
     let p = s.args.p in
     let w = s.args.word in
     let t = table_of l in
-    let r : refused w ≡ false = sym c.before.before.before.before.before.refused.ensures ∙ c.before.before.before.before.if1.false in
-    let m : (same_alternative (port_at t p).control w || in_disabled (port_at t p).state) ≡ false = ap₂ (λ (k : ℕ) (x : State). same_alternative k w || in_disabled x) (control_at l p s.requires) (state_at l p s.requires) ∙ sym c.before.may_write_lem.ensures ∙ not-true c.before.may_write_lem.result c.if2.true in
+    let r : refused w ≡ false = sym c.refused.ensures ∙ c.if-refused.false in
+    let m : (same_alternative (port_at t p).control w || in_disabled (port_at t p).state) ≡ false = ap₂ (λ (k : ℕ) (x : State). same_alternative k w || in_disabled x) (control_at l p s.requires) (state_at l p s.requires) ∙ sym c.may_write.ensures ∙ c.if-not-may_write.true in
     let e : control_rest l p w ≡ refuse 5 t = simp (r, ← not_or, m) in
     told_refused (control_rest l p w) t l 5 e)
     (λ c. search rules)
@@ -62,8 +62,8 @@ controlled_spec =
     let p = s.args.p in
     let w = s.args.word in
     let t = table_of l in
-    let r : refused w ≡ false = sym c.before.before.before.before.before.refused.ensures ∙ c.before.before.before.before.if1.false in
-    let m : (same_alternative (port_at t p).control w || in_disabled (port_at t p).state) ≡ true = ap₂ (λ (k : ℕ) (x : State). same_alternative k w || in_disabled x) (control_at l p s.requires) (state_at l p s.requires) ∙ sym c.before.may_write_lem.ensures ∙ not-false c.before.may_write_lem.result c.if2.false in
+    let r : refused w ≡ false = sym c.refused.ensures ∙ c.if-refused.false in
+    let m : (same_alternative (port_at t p).control w || in_disabled (port_at t p).state) ≡ true = ap₂ (λ (k : ℕ) (x : State). same_alternative k w || in_disabled x) (control_at l p s.requires) (state_at l p s.requires) ∙ sym c.may_write.ensures ∙ c.if-not-may_write.false in
     let after = with_port p (with_control w (port_at t p)) t in
     let e : control_rest l p w ≡ done after = simp (r, ← not_or, m) in
     told_done (control_rest l p w) after l (set l (56 + p) w) e (control_cell l s.requires.well p s.requires.below w)))

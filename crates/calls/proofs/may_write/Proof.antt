@@ -15,11 +15,11 @@ may_write_spec =
     tie.close
     (tie.spec
     (λ c.
-    let a = c.before.args in
-    let e : in_disabled (state_of a.state) ≡ true = disabled_code a.state ∙ eq-eqb _ _ c.if1.true in
+    let a = c.args in
+    let e : in_disabled (state_of a.state) ≡ true = disabled_code a.state ∙ eq-eqb _ _ c.if-state-eq0.true in
     sym (ap (λ (b : Bool). same_alternative a.present a.word || b) e ∙ or-true (same_alternative a.present a.word)))
     (λ c κs. search rules)
     (λ c.
-    let a = c.before.before.args in
-    let e : in_disabled (state_of a.state) ≡ false = disabled_code a.state ∙ ne_eqb _ _ c.before.if1.false in
+    let a = c.args in
+    let e : in_disabled (state_of a.state) ≡ false = disabled_code a.state ∙ ne_eqb _ _ c.if-state-eq0.false in
     c.same_alternative.ensures ∙ sym (ap (λ (b : Bool). same_alternative a.present a.word || b) e ∙ or-false (same_alternative a.present a.word))))

@@ -26,43 +26,43 @@ read_status_spec =
     (λ c κs. search rules)
     (λ c. search rules)
     (λ c.
-    let l = c.before.before.before.before.args.cells.now in
-    let p = c.before.before.before.before.args.port in
-    let e : well_cells l ≡ false = sym c.before.well_made_lem.ensures ∙ not-true c.before.well_made_lem.result c.if1.true in
+    let l = c.args.cells.now in
+    let p = c.args.port in
+    let e : well_cells l ≡ false = sym c.well_made.ensures ∙ c.if-not-well_made.true in
     read_refused (status_on l p) (table_of l) l 13 (status_ill l p e))
     (λ c.
-    let l = c.before.before.before.before.before.args.cells.now in
-    let e : well_cells l ≡ true = sym c.before.before.well_made_lem.ensures ∙ not-false c.before.before.well_made_lem.result c.before.if1.false in
+    let l = c.args.cells.now in
+    let e : well_cells l ≡ true = sym c.well_made.ensures ∙ c.if-not-well_made.false in
     omega (arith, (cells_of l e).long))
-    (λ c. omega (arith, c.slice-known2.given 0))
+    (λ c. omega (arith, c.slice_known-2-1.given 0))
     (λ c. search rules)
     (λ c.
-    let l = c.before.before.before.before.before.before.args.cells.now in
-    let p = c.before.before.before.before.before.before.args.port in
-    let e : well_cells l ≡ true = sym c.before.before.before.well_made_lem.ensures ∙ not-false c.before.before.before.well_made_lem.result c.before.before.if1.false in
-    read_refused (status_on l p) (table_of l) l 2 (status_no_port l p e c.if2.true))
+    let l = c.args.cells.now in
+    let p = c.args.port in
+    let e : well_cells l ≡ true = sym c.well_made.ensures ∙ c.if-not-well_made.false in
+    read_refused (status_on l p) (table_of l) l 2 (status_no_port l p e c.if-cells-port.true))
     (λ c κs.
-    let l = c.before.before.before.before.before.before.before.args.cells.now in
-    let p = c.before.before.before.before.before.before.before.args.port in
-    let e : well_cells l ≡ true = sym c.before.before.before.before.well_made_lem.ensures ∙ not-false c.before.before.before.before.well_made_lem.result c.before.before.before.if1.false in
-    at_port l p e c.before.if2.false)
+    let l = c.args.cells.now in
+    let p = c.args.port in
+    let e : well_cells l ≡ true = sym c.well_made.ensures ∙ c.if-not-well_made.false in
+    at_port l p e c.if-cells-port.false)
     (λ c.
-    let l = c.before.before.before.before.before.before.before.before.args.cells.now in
-    let e : well_cells l ≡ true = sym c.before.before.before.before.before.well_made_lem.ensures ∙ not-false c.before.before.before.before.before.well_made_lem.result c.before.before.before.before.if1.false in
-    omega (arith, (cells_of l e).few_ports, c.before.before.if2.false))
+    let l = c.args.cells.now in
+    let e : well_cells l ≡ true = sym c.well_made.ensures ∙ c.if-not-well_made.false in
+    omega (arith, (cells_of l e).few_ports, c.if-cells-port.false))
     (λ c.
-    let l = c.before.before.before.before.before.before.before.before.args.cells.now in
-    let e : well_cells l ≡ true = sym c.before.before.before.before.before.well_made_lem.ensures ∙ not-false c.before.before.before.before.before.well_made_lem.result c.before.before.before.before.if1.false in
-    omega (arith, (cells_of l e).few_ports, c.before.before.if2.false))
+    let l = c.args.cells.now in
+    let e : well_cells l ≡ true = sym c.well_made.ensures ∙ c.if-not-well_made.false in
+    omega (arith, (cells_of l e).few_ports, c.if-cells-port.false))
     (λ c.
-    let l = c.before.before.before.before.before.before.before.before.args.cells.now in
-    let e : well_cells l ≡ true = sym c.before.before.before.before.before.well_made_lem.ensures ∙ not-false c.before.before.before.before.before.well_made_lem.result c.before.before.before.before.if1.false in
-    omega (arith, (cells_of l e).few_ports, (cells_of l e).long, c.before.before.if2.false))
+    let l = c.args.cells.now in
+    let e : well_cells l ≡ true = sym c.well_made.ensures ∙ c.if-not-well_made.false in
+    omega (arith, (cells_of l e).few_ports, (cells_of l e).long, c.if-cells-port.false))
     (λ c. search rules)
     (λ c.
-    let l = c.before.before.before.before.before.before.before.before.args.cells.now in
-    let p = c.before.before.before.before.before.before.before.before.args.port in
-    let e : well_cells l ≡ true = sym c.before.before.before.before.before.well_made_lem.ensures ∙ not-false c.before.before.before.before.before.well_made_lem.result c.before.before.before.before.if1.false in
-    let h = c.before.before.if2.false in
+    let l = c.args.cells.now in
+    let p = c.args.port in
+    let e : well_cells l ≡ true = sym c.well_made.ensures ∙ c.if-not-well_made.false in
+    let h = c.if-cells-port.false in
     let after = with_port p (unlatched (port_at (table_of l) p)) (table_of l) in
-    read_word (status_on l p) after l (set l (200 + p) 0) c.word_of.result _ (status_goes l p e h) c.word_of.ensures (latch_cell l e p h)))
+    read_word (status_on l p) after l (set l (200 + p) 0) c.word_of-word.result _ (status_goes l p e h) c.word_of-word.ensures (latch_cell l e p h)))

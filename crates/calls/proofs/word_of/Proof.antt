@@ -28,9 +28,9 @@ word_of_spec =
     let p = s.args.p in
     simp (
       c.status_word.ensures,
-      c.before.before.latches_of.ensures,
-      c.before.before.before.before.condition_of.ensures,
-      c.before.before.before.before.before.state_of.ensures,
+      c.latches_of.ensures,
+      c.condition_of-condition.ensures,
+      c.state_of.ensures,
       latches_at l p s.requires,
       class_at l p s.requires,
       state_at l p s.requires,

@@ -23,32 +23,32 @@ write_control_spec =
     (λ c κs. search rules)
     (λ c. search rules)
     (λ c.
-    let l = c.before.before.before.before.args.cells.now in
-    let p = c.before.before.before.before.args.port in
-    let w = c.before.before.before.before.args.word in
-    let e : well_cells l ≡ false = sym c.before.well_made_lem.ensures ∙ not-true c.before.well_made_lem.result c.if1.true in
+    let l = c.args.cells.now in
+    let p = c.args.port in
+    let w = c.args.word in
+    let e : well_cells l ≡ false = sym c.well_made.ensures ∙ c.if-not-well_made.true in
     told_refused (control_on l p w) (table_of l) l 13 (control_ill l p w e))
     (λ c.
-    let l = c.before.before.before.before.before.args.cells.now in
-    let e : well_cells l ≡ true = sym c.before.before.well_made_lem.ensures ∙ not-false c.before.before.well_made_lem.result c.before.if1.false in
+    let l = c.args.cells.now in
+    let e : well_cells l ≡ true = sym c.well_made.ensures ∙ c.if-not-well_made.false in
     omega (arith, (cells_of l e).long))
-    (λ c. omega (arith, c.slice-known2.given 0))
+    (λ c. omega (arith, c.slice_known-2-1.given 0))
     (λ c. search rules)
     (λ c.
-    let l = c.before.before.before.before.before.before.args.cells.now in
-    let p = c.before.before.before.before.before.before.args.port in
-    let w = c.before.before.before.before.before.before.args.word in
-    let e : well_cells l ≡ true = sym c.before.before.before.well_made_lem.ensures ∙ not-false c.before.before.before.well_made_lem.result c.before.before.if1.false in
-    told_refused (control_on l p w) (table_of l) l 2 (control_no_port l p w e c.if2.true))
+    let l = c.args.cells.now in
+    let p = c.args.port in
+    let w = c.args.word in
+    let e : well_cells l ≡ true = sym c.well_made.ensures ∙ c.if-not-well_made.false in
+    told_refused (control_on l p w) (table_of l) l 2 (control_no_port l p w e c.if-cells-port.true))
     (λ c κs.
-    let l = c.before.before.before.before.before.before.before.args.cells.now in
-    let e : well_cells l ≡ true = sym c.before.before.before.before.well_made_lem.ensures ∙ not-false c.before.before.before.before.well_made_lem.result c.before.before.before.if1.false in
-    at_port l c.before.before.before.before.before.before.before.args.port e c.before.if2.false)
+    let l = c.args.cells.now in
+    let e : well_cells l ≡ true = sym c.well_made.ensures ∙ c.if-not-well_made.false in
+    at_port l c.args.port e c.if-cells-port.false)
     (λ c. search rules)
     (λ c.
-    let l = c.before.before.before.before.before.before.before.before.before.before.args.cells.now in
-    let p = c.before.before.before.before.before.before.before.before.before.before.args.port in
-    let w = c.before.before.before.before.before.before.before.before.before.before.args.word in
-    let e : well_cells l ≡ true = sym c.before.before.before.before.before.before.before.well_made_lem.ensures ∙ not-false c.before.before.before.before.before.before.before.well_made_lem.result c.before.before.before.before.before.before.if1.false in
-    let g = control_goes l p w e c.before.before.before.before.if2.false in
-    (c.before.before.controlled.ensures.0 ∙ ap (λ (x : Replied). x.answer) (sym g), c.before.before.controlled.ensures.1 ∙ ap (λ (x : Replied). cells_told x l) (sym g))))
+    let l = c.args.cells.now in
+    let p = c.args.port in
+    let w = c.args.word in
+    let e : well_cells l ≡ true = sym c.well_made.ensures ∙ c.if-not-well_made.false in
+    let g = control_goes l p w e c.if-cells-port.false in
+    (c.controlled.ensures.0 ∙ ap (λ (x : Replied). x.answer) (sym g), c.controlled.ensures.1 ∙ ap (λ (x : Replied). cells_told x l) (sym g))))

@@ -23,10 +23,10 @@ use Rattle.request.proofs.closed_sum.Tie as tie
 abbrev drawn_at : List ℕ → ℕ → ℕ → ℕ → ℕ
 drawn_at l d at q = draws (port_at (granting (tenths d) at (table_of l)) q)
 
-abbrev invariant_loop : tie.invariant_loop
+abbrev invariant_loop : tie.invariant-loop-p
 invariant_loop cells at n changed sum₀ p₀ sum p = (p ≤ n) × (sum ≡ total p (drawn_at cells changed at)) × (sum ≤ p * 65535)
 
-abbrev decreases_loop : tie.decreases_loop
+abbrev decreases_loop : tie.decreases-loop-p
 decreases_loop cells at n changed sum₀ p₀ sum p = n - p
 
 pub closed_sum_spec : {M : Type 1} → statement M
@@ -47,22 +47,22 @@ closed_sum_spec =
     (λ c. omega arith)
     (λ c κs. search rules)
     (λ c κs. search rules)
-    (λ c. omega (arith, c.drawn.ensures.1))
+    (λ c. omega (arith, c.drawn-sum.ensures.1))
     (λ c. omega arith)
     (λ c. omega arith)
     (λ c.
-    let k = c.before.before.before.before.before.loop in
-    let a = c.before.before.before.before.before.before.before.before.args in
+    let k = c.loop-p in
+    let a = c.args in
     let l = a.cells.now in
     let f = drawn_at l a.demand.0 a.at in (
       omega arith,
-      ap (λ (x : ℕ). k.sum + x) (c.drawn.ensures.0 ∙ ap (λ (x : ℕ). cond (closed (state_of (get_or l (8 + k.p) 0))) x 0) c.before.pick.ensures ∙ sym (draws_with l a.demand a.at k.p (omega arith)))
+      ap (λ (x : ℕ). k.sum + x) (c.drawn-sum.ensures.0 ∙ ap (λ (x : ℕ). cond (closed (state_of (get_or l (8 + k.p) 0))) x 0) c.pick.ensures ∙ sym (draws_with l a.demand a.at k.p (omega arith)))
           ∙ ap (λ (x : ℕ). x + f k.p) k.invariant.1 ∙ sym (total_next k.p f),
-      omega (arith, c.drawn.ensures.1),
+      omega (arith, c.drawn-sum.ensures.1),
     ))
     (λ c.
-    let k = c.before.loop in
-    let a = c.before.before.before.before.args in
+    let k = c.loop-p in
+    let a = c.args in
     let l = a.cells.now in
     let e : k.p ≡ count_cell l = le_antisymm k.invariant.0 (omega arith) in
     ap sum_of (k.invariant.1 ∙ ap (λ (n : ℕ). total n (drawn_at l a.demand.0 a.at)) e)))

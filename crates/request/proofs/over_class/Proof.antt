@@ -16,10 +16,10 @@ unfolding over_class
 over_class_spec =
     tie.close
     (tie.spec
-    (λ c. simp (lt-ltb 255 c.before.args.value (omega (arith, c.if1.true))))
+    (λ c. simp (lt-ltb 255 c.args.value (omega (arith, c.if-value-gt255.true))))
     (λ c κs. search rules)
     (λ c κs. search rules)
     (λ c.
     let s = c.before.before.before in
-    simp (le-ltb 255 s.args.value (omega (arith, c.before.before.if1.false)))
-    (ap not (c.at_most_lem.ensures ∙ ap₂ at_most s.requires c.before.budget.ensures) ∙ sym (over_is _ _))))
+    simp (le-ltb 255 s.args.value (omega (arith, c.if-value-gt255.false)))
+    (ap not (c.at_most.ensures ∙ ap₂ at_most s.requires c.budget.ensures) ∙ sym (over_is _ _))))

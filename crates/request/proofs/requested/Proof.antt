@@ -4,7 +4,7 @@ use mathlib.Core.Bool.{true, false, ◌||◌}
 use mathlib.Core.List.{List}
 use Prim.Native.Nat.{ℕ, ◌+◌}
 use borrow.Author.Rules.{rules}
-use borrow.Author.Tests.{not-true, not-false}
+use borrow.Author.Tests.{ne_eqb, eq-eqb}
 use lib.Dec.{eqb, ltb}
 use lib.ListN.{get_or, set}
 use Rattle.sizes.specs.Sizes.{most_value}
@@ -59,7 +59,7 @@ pub requested_spec : {M : Type 1} → statement M
 requested_spec =
     tie.close
     (tie.spec
-    (λ c. let s = c.before.before in refuse_10 _ _ s.args.value s.requires c.if1.true)
+    (λ c. let s = c in refuse_10 _ _ s.args.value s.requires c.if-value.true)
     (λ c κs. search rules)
     (λ c. search rules)
     (λ c. search rules)
@@ -68,31 +68,31 @@ requested_spec =
     (λ c. search rules)
     (λ c. search rules)
     (λ c. search rules)
-    (λ c κs. c.before.before.level_of.ensures)
+    (λ c κs. c.level_of-level.ensures)
     (λ c.
-    let s = c.before.before.before.before.before.before.before in
-    refuse_5 _ _ s.args.value s.requires c.before.before.before.before.before.if1.false (not-true _ c.if2.true))
+    let s = c in
+    refuse_5 _ _ s.args.value s.requires c.if-value.false (ne_eqb _ 6 c.if-not-on.true))
     (λ c.
-    let on = c.before in
-    let s = on.before.before.before.before.before.before.before in
-    refuse_11 _ _ s.args.value s.requires on.before.before.before.before.before.if1.false (not-false _ on.if2.false) (sym on.before.over_class_lem.ensures ∙ c.if3.true))
+    let on = c in
+    let s = on in
+    refuse_11 _ _ s.args.value s.requires on.if-value.false (eq-eqb _ 6 on.if-not-on.false) (sym on.over_class-over.ensures ∙ c.if-over.true))
     (λ c κs. search rules)
     (λ c. search rules)
     (λ c.
-    let within = c.before.before.before in
-    let on = within.before in
-    let s = on.before.before.before.before.before.before.before in
-    let level = on.before.before.before.before.level_of in
-    refuse_12 _ _ s.args.value s.requires on.before.before.before.before.before.if1.false (not-false _ on.if2.false) (sym on.before.over_class_lem.ensures ∙ within.if3.false)
-    (supply s.args.p (table_of s.args.cells.now) level.ensures ∙ sym c.before.too_much.ensures ∙ c.if4.true))
+    let within = c in
+    let on = within in
+    let s = on in
+    let level = on.level_of-level in
+    refuse_12 _ _ s.args.value s.requires on.if-value.false (eq-eqb _ 6 on.if-not-on.false) (sym on.over_class-over.ensures ∙ within.if-over.false)
+    (supply s.args.p (table_of s.args.cells.now) level.ensures ∙ sym c.too_much.ensures ∙ c.if-too_much.true))
     (λ c. search rules)
     (λ c. search rules)
     (λ c. search rules)
     (λ c. search rules)
     (λ c.
-    let within = c.before.before.before in
-    let on = within.before in
-    let s = on.before.before.before.before.before.before.before in
-    let level = on.before.before.before.before.level_of in
-    accept _ _ s.args.value s.requires on.before.before.before.before.before.if1.false (not-false _ on.if2.false) (sym on.before.over_class_lem.ensures ∙ within.if3.false)
-    (supply s.args.p (table_of s.args.cells.now) level.ensures ∙ sym c.before.too_much.ensures ∙ c.if4.false) level.result level.ensures))
+    let within = c in
+    let on = within in
+    let s = on in
+    let level = on.level_of-level in
+    accept _ _ s.args.value s.requires on.if-value.false (eq-eqb _ 6 on.if-not-on.false) (sym on.over_class-over.ensures ∙ within.if-over.false)
+    (supply s.args.p (table_of s.args.cells.now) level.ensures ∙ sym c.too_much.ensures ∙ c.if-too_much.false) level.result level.ensures))

@@ -27,7 +27,7 @@ too_much_spec =
     let p = s.args.p in
     let d = s.args.demand in
     let t = table_of l in
-    let o : over d (port_at t p).demand ≡ false = over_is d (port_at t p).demand ∙ ap not (ap (at_most d) (demand_at l p s.requires) ∙ sym c.before.at_most_lem.ensures ∙ c.if1.true) in
+    let o : over d (port_at t p).demand ≡ false = over_is d (port_at t p).demand ∙ ap not (ap (at_most d) (demand_at l p s.requires) ∙ sym c.at_most.ensures ∙ c.if-at_most.true) in
     simp o)
     (λ c κs. search rules)
     (λ c. search rules)
@@ -38,5 +38,5 @@ too_much_spec =
     let p = s.args.p in
     let d = s.args.demand in
     let t = table_of l in
-    let o : over d (port_at t p).demand ≡ true = over_is d (port_at t p).demand ∙ ap not (ap (at_most d) (demand_at l p s.requires) ∙ sym c.before.before.before.before.at_most_lem.ensures ∙ c.before.before.before.if1.false) in
-    simp o (ap not (c.fits2.ensures ∙ ap (λ (x : Sum). fits x (tenths (supply_cell l))) c.before.before.closed_sum.ensures))))
+    let o : over d (port_at t p).demand ≡ true = over_is d (port_at t p).demand ∙ ap not (ap (at_most d) (demand_at l p s.requires) ∙ sym c.at_most.ensures ∙ c.if-at_most.false) in
+    simp o (ap not (c.fits.ensures ∙ ap (λ (x : Sum). fits x (tenths (supply_cell l))) c.closed_sum.ensures))))

@@ -26,9 +26,9 @@ move_all_spec =
     (λ c. search rules)
     (λ c. search rules)
     (λ c.
-    let a = c.before.before.before.before.before.before.before.before.before.before.before.args in
-    let q = c.before.before.before.before.before.sweep.ensures in
-    let f : swept_left a.cells.now a.lane.now ≡ false = sym q.0 ∙ not-true _ c.if1.true in
+    let a = c.args in
+    let q = c.sweep.ensures in
+    let f : swept_left a.cells.now a.lane.now ≡ false = sym q.0 ∙ c.if-not-sweep.true in
     (simp f, (simp f q.1.0, simp f q.1.1)))
     (λ c κs.
     let s = c.before.before.before.before.before.before.before.before.before.before.before.before.before in
@@ -36,7 +36,7 @@ move_all_spec =
     let b = s.args.block.now in
     let lane = s.args.lane.now in
     let r = s.requires.0 in
-    let q = c.before.before.before.before.before.before.before.sweep.ensures in (
+    let q = c.sweep.ensures in (
       rw q.1.0 (cells1_long l b lane r),
       omega (arith, s.requires.1, (cells_of l r.well).few_ports),
       omega (arith, s.requires.1, r.sized),
@@ -52,9 +52,9 @@ move_all_spec =
     let l = a.cells.now in
     let b = a.block.now in
     let lane = a.lane.now in
-    let q = c.before.before.before.before.before.before.before.before.before.before.before.before.sweep.ensures in
-    let e = c.before.before.before.before.steps.ensures in
-    let t : swept_left l lane ≡ true = sym q.0 ∙ not-false _ c.before.before.before.before.before.before.before.if1.false in (
+    let q = c.sweep.ensures in
+    let e = c.steps.ensures in
+    let t : swept_left l lane ≡ true = sym q.0 ∙ c.if-not-sweep.false in (
       simp t (e.0 ∙ ap₂ (λ (x y : List ℕ). some_below a.n (λ p. (marked_move (get_or y p 0) b x p).asks)) q.1.0 q.1.1 ∙ ap (λ (k : ℕ). some_below k (λ p. (marked_move (get_or (swept_lane l lane) p 0) b (swept_cells l lane) p).asks)) s.requires.1),
       (
         simp t (e.1.0 ∙ ap₂ (λ (x y : List ℕ). written a.n (stepped_port y b x) x) q.1.0 q.1.1 ∙ ap (λ (k : ℕ). written k (stepped_port (swept_lane l lane) b (swept_cells l lane)) (swept_cells l lane)) s.requires.1),

@@ -32,15 +32,15 @@ unfolding moved_answer table_of
 moved_spec =
     tie.close
     (tie.spec
-    (λ c. let s = c.before.before.before.before in omega (arith, (cells_of s.args.cells.now s.requires.well).long))
-    (λ c. let s = c.before.before.before.before in omega (arith, (cells_of s.args.cells.now s.requires.well).few_ports))
-    (λ c κs. (c.before.before.before.before.before.before.requires, refl))
+    (λ c. let s = c in omega (arith, (cells_of s.args.cells.now s.requires.well).long))
+    (λ c. let s = c in omega (arith, (cells_of s.args.cells.now s.requires.well).few_ports))
+    (λ c κs. (c.requires, refl))
     (λ c κs.
-    let s = c.before.before.before.before.before.before.before.before.before.before.before.before.before in
+    let s = c in
     let l = s.args.cells.now in
     let b = s.args.block.now in
     let lane = s.args.lane.now in
-    let q = c.before.before.before.before.before.before.move_all.ensures in
+    let q = c.move_all-asks.ensures in
     let w = cells_of l s.requires.well in (
       rw q.1.0 (cells2_long l b lane s.requires),
       w.few_ports,
@@ -49,49 +49,49 @@ moved_spec =
       rw q.1.0 (cells2_classes l b lane s.requires),
     ))
     (λ c.
-    let s = c.before.before.before.before.before.before.before.before.before.before.before.before.before.before.before.before in
+    let s = c in
     let l = s.args.cells.now in
     let b = s.args.block.now in
     let lane = s.args.lane.now in
-    let q = c.before.before.before.before.before.before.before.before.before.move_all.ensures in
+    let q = c.move_all-asks.ensures in
     let w = cells_of l s.requires.well in
-    let e = shared_was (count_cell l) s.args.supply _ (moved_on l b lane) _ (asked_on l b lane) _ (some_ask l b lane) _ c.before.before.share_all.ensures q.1.0 q.1.1 q.0 in
+    let e = shared_was (count_cell l) s.args.supply _ (moved_on l b lane) _ (asked_on l b lane) _ (some_ask l b lane) _ c.share_all.ensures q.1.0 q.1.1 q.0 in
     omega (arith, ap length e, length-set (shared_on (count_cell l) (asked_on l b lane) (some_ask l b lane) s.args.supply (moved_on l b lane)) 1 s.args.supply, stored_long l b lane s.requires s.args.supply))
     (λ c κs. search rules)
     (λ c.
-    let s = c.before.before.before.before.before.before.before.before.before.before.before.before.before.before.before.before.before.before.before.before.before in
+    let s = c in
     let l = s.args.cells.now in
     let b = s.args.block.now in
     let lane = s.args.lane.now in
-    let q = c.before.before.before.before.before.before.before.before.before.before.before.before.before.before.move_all.ensures in
+    let q = c.move_all-asks.ensures in
     let w = cells_of l s.requires.well in
-    let e = shared_as (count_cell l) s.args.supply _ (moved_on l b lane) _ (asked_on l b lane) _ (some_ask l b lane) _ c.before.before.before.before.before.before.before.share_all.ensures q.1.0 q.1.1 q.0 in
+    let e = shared_as (count_cell l) s.args.supply _ (moved_on l b lane) _ (asked_on l b lane) _ (some_ask l b lane) _ c.share_all.ensures q.1.0 q.1.1 q.0 in
     let long = ap length e ∙ stored_long l b lane s.requires s.args.supply in
     let wide = ap length q.1.1 ∙ asked_long l b lane s.requires in
     long ∙ sym w.long)
     (λ c.
-    let s = c.before.before.before.before.before.before.before.before.before.before.before.before.before.before.before.before.before.before.before.before.before in
+    let s = c in
     let l = s.args.cells.now in
     let b = s.args.block.now in
     let lane = s.args.lane.now in
-    let q = c.before.before.before.before.before.before.before.before.before.before.before.before.before.before.move_all.ensures in
+    let q = c.move_all-asks.ensures in
     let w = cells_of l s.requires.well in
-    let e = shared_as (count_cell l) s.args.supply _ (moved_on l b lane) _ (asked_on l b lane) _ (some_ask l b lane) _ c.before.before.before.before.before.before.before.share_all.ensures q.1.0 q.1.1 q.0 in
+    let e = shared_as (count_cell l) s.args.supply _ (moved_on l b lane) _ (asked_on l b lane) _ (some_ask l b lane) _ c.share_all.ensures q.1.0 q.1.1 q.0 in
     let long = ap length e ∙ stored_long l b lane s.requires s.args.supply in
     let wide = ap length q.1.1 ∙ asked_long l b lane s.requires in
-    ap length (c.before.before.closed_ports.ensures.1 ∙ sides_in_lem (count_cell l) _ w.few_ports long _ wide) ∙ side_lane_long _ _ ∙ sym (lane_long l b lane s.requires))
+    ap length (c.closed_ports.ensures.1 ∙ sides_in_lem (count_cell l) _ w.few_ports long _ wide) ∙ side_lane_long _ _ ∙ sym (lane_long l b lane s.requires))
     (λ c.
-    let s = c.before.before.before.before.before.before.before.before.before.before.before.before.before.before.before.before.before.before.before.before.before in
+    let s = c in
     let l = s.args.cells.now in
     let b = s.args.block.now in
     let lane = s.args.lane.now in
-    let q = c.before.before.before.before.before.before.before.before.before.before.before.before.before.before.move_all.ensures in
+    let q = c.move_all-asks.ensures in
     let w = cells_of l s.requires.well in
-    let e = shared_as (count_cell l) s.args.supply _ (moved_on l b lane) _ (asked_on l b lane) _ (some_ask l b lane) _ c.before.before.before.before.before.before.before.share_all.ensures q.1.0 q.1.1 q.0 in
+    let e = shared_as (count_cell l) s.args.supply _ (moved_on l b lane) _ (asked_on l b lane) _ (some_ask l b lane) _ c.share_all.ensures q.1.0 q.1.1 q.0 in
     let long = ap length e ∙ stored_long l b lane s.requires s.args.supply in
     let wide = ap length q.1.1 ∙ asked_long l b lane s.requires in
     let T = table_after (table_of l) (moved_at (table_of l) b) (tenths s.args.supply) in (
-      c.before.before.closed_ports.ensures.0
+      c.closed_ports.ensures.0
           ∙ closed_in_lem (count_cell l) _ w.few_ports long _ wide
           ∙ side_lane_answer (count_cell l) _ T (count_after (table_of l) (moved_at (table_of l) b) (tenths s.args.supply))
           (λ p h. ap (λ (x : List ℕ). port_of x p) e ∙ stored_port l b lane s.requires s.args.supply p h),

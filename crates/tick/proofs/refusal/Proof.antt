@@ -28,43 +28,43 @@ refusal_spec =
     (tie.spec
     (λ c κs. search rules)
     (λ c.
-    let e = no_head c.before.before.before.before.before.args.cells.now (sym c.before.well_head.ensures ∙ not-true _ c.if1.true) in
+    let e = no_head c.args.cells.now (sym c.well_head.ensures ∙ c.if-not-well_head.true) in
     (simp e, λ z. absurd (omega arith)))
-    (λ c. omega (arith, head_long c.before.before.before.before.before.before.args.cells.now (sym c.before.before.well_head.ensures ∙ not-false _ c.before.if1.false)))
-    (λ c. omega (arith, head_count c.before.before.before.before.before.before.args.cells.now (sym c.before.before.well_head.ensures ∙ not-false _ c.before.if1.false)))
+    (λ c. omega (arith, head_long c.args.cells.now (sym c.well_head.ensures ∙ c.if-not-well_head.false)))
+    (λ c. omega (arith, head_count c.args.cells.now (sym c.well_head.ensures ∙ c.if-not-well_head.false)))
     (λ c κs. search rules)
     (λ c κs. search rules)
     (λ c. search rules)
     (λ c.
-    let e = sym c.before.well_made_lem.ensures ∙ not-true _ c.if2.true in
+    let e = sym c.well_made.ensures ∙ c.if-not-well_made.true in
     (simp e, λ z. absurd (omega arith)))
-    (λ c. omega (arith, head_count c.before.before.before.before.before.before.before.before.before.before.before.before.args.cells.now (sym c.before.before.before.before.before.before.before.before.well_head.ensures ∙ not-false _ c.before.before.before.before.before.before.before.if1.false)))
+    (λ c. omega (arith, head_count c.args.cells.now (sym c.well_head.ensures ∙ c.if-not-well_head.false)))
     (λ c. search rules)
     (λ c.
-    let e = sym c.before.before.well_made_lem.ensures ∙ not-false _ c.before.if2.false in
-    (simp (e, ne_eqb _ _ c.if3.true), λ z. absurd (omega arith)))
+    let e = sym c.well_made.ensures ∙ c.if-not-well_made.false in
+    (simp (e, ne_eqb _ _ c.if-block-n.true), λ z. absurd (omega arith)))
     (λ c. search rules)
     (λ c. search rules)
     (λ c.
-    let e = sym c.before.before.before.well_made_lem.ensures ∙ not-false _ c.before.before.if2.false in
-    (simp (e, eq-eqb _ _ c.before.if3.false, lt-ltb _ _ c.if4.true), λ z. absurd (omega arith)))
-    (λ c. search rules)
-    (λ c.
-    let s = c.before.before.before.before.before.before.before.before.before.before.before.before.before.before.before in
-    let a = s.args in
-    let e = sym c.before.before.before.before.well_made_lem.ensures ∙ not-false _ c.before.before.before.if2.false in
-    let long = eq-eqb _ _ c.before.before.if3.false in
-    let few = head_count a.cells.now (sym c.before.before.before.before.before.before.before.before.before.before.before.well_head.ensures ∙ not-false _ c.before.before.before.before.before.before.before.before.before.before.if1.false) in
-    let read = c.before.before.before.before.before.before.before.flags_into.ensures in
-    let f : flags_fine (count_cell a.cells.now) a.block.now ≡ true = sym (fit_clean _ _ a.lane.now few c.before.before.if3.false s.requires) ∙ sym read.0 ∙ c.if5.true in
-    (simp (e, long, le-ltb _ _ c.before.if4.false, f), λ z. read.1 ∙ fit_laid _ _ a.lane.now few c.before.before.if3.false s.requires))
+    let e = sym c.well_made.ensures ∙ c.if-not-well_made.false in
+    (simp (e, eq-eqb _ _ c.if-block-n.false, lt-ltb _ _ c.if-figure-highest.true), λ z. absurd (omega arith)))
     (λ c. search rules)
     (λ c.
     let s = c.before.before.before.before.before.before.before.before.before.before.before.before.before.before.before in
     let a = s.args in
-    let e = sym c.before.before.before.before.well_made_lem.ensures ∙ not-false _ c.before.before.before.if2.false in
-    let long = eq-eqb _ _ c.before.before.if3.false in
-    let few = head_count a.cells.now (sym c.before.before.before.before.before.before.before.before.before.before.before.well_head.ensures ∙ not-false _ c.before.before.before.before.before.before.before.before.before.before.if1.false) in
-    let read = c.before.before.before.before.before.before.before.flags_into.ensures in
-    let f : flags_fine (count_cell a.cells.now) a.block.now ≡ false = sym (fit_clean _ _ a.lane.now few c.before.before.if3.false s.requires) ∙ sym read.0 ∙ c.if5.false in
-    (simp (e, long, le-ltb _ _ c.before.if4.false, f), λ z. absurd (omega arith))))
+    let e = sym c.well_made.ensures ∙ c.if-not-well_made.false in
+    let long = eq-eqb _ _ c.if-block-n.false in
+    let few = head_count a.cells.now (sym c.well_head.ensures ∙ c.if-not-well_head.false) in
+    let read = c.flags_into-clean.ensures in
+    let f : flags_fine (count_cell a.cells.now) a.block.now ≡ true = sym (fit_clean _ _ a.lane.now few c.if-block-n.false s.requires) ∙ sym read.0 ∙ c.if-clean.true in
+    (simp (e, long, le-ltb _ _ c.if-figure-highest.false, f), λ z. read.1 ∙ fit_laid _ _ a.lane.now few c.if-block-n.false s.requires))
+    (λ c. search rules)
+    (λ c.
+    let s = c.before.before.before.before.before.before.before.before.before.before.before.before.before.before.before in
+    let a = s.args in
+    let e = sym c.well_made.ensures ∙ c.if-not-well_made.false in
+    let long = eq-eqb _ _ c.if-block-n.false in
+    let few = head_count a.cells.now (sym c.well_head.ensures ∙ c.if-not-well_head.false) in
+    let read = c.flags_into-clean.ensures in
+    let f : flags_fine (count_cell a.cells.now) a.block.now ≡ false = sym (fit_clean _ _ a.lane.now few c.if-block-n.false s.requires) ∙ sym read.0 ∙ c.if-clean.false in
+    (simp (e, long, le-ltb _ _ c.if-figure-highest.false, f), λ z. absurd (omega arith))))

@@ -18,20 +18,20 @@ share_all_spec =
     tie.close
     (tie.spec
     (λ c κs. search rules)
-    (λ c κs. let s = c.before.before.before.before.before.before in (s.requires.0, s.requires.1, s.requires.2, s.requires.3, s.requires.4))
+    (λ c κs. let s = c in (s.requires.0, s.requires.1, s.requires.2, s.requires.3, s.requires.4))
     (λ c. search rules)
     (λ c.
-    let s = c.before.before.before.before.before.before.before.before.before in
+    let s = c in
     let a = s.args in
     let l = a.cells.now in
-    let d : c.before.before.before.before.before.drawn.result ≡ drawn_on a.n l = c.before.before.before.before.before.drawn.ensures ∙ drawn_in_lem a.n l s.requires.1 s.requires.0 in
-    let t : (a.asks || ltb a.supply (drawn_on a.n l)) ≡ true = ap (λ (k : ℕ). a.asks || ltb a.supply k) (sym d) ∙ c.before.before.before.before.if1.true in
-    simp t (c.before.before.share_out.ensures ∙ ap (λ (k : ℕ). written a.n (shared_by a.n a.lane.now k a.supply l) l) d))
+    let d : c.drawn-drawn.result ≡ drawn_on a.n l = c.drawn-drawn.ensures ∙ drawn_in_lem a.n l s.requires.1 s.requires.0 in
+    let t : (a.asks || ltb a.supply (drawn_on a.n l)) ≡ true = ap (λ (k : ℕ). a.asks || ltb a.supply k) (sym d) ∙ c.if-asks-supply.true in
+    simp t (c.share_out.ensures ∙ ap (λ (k : ℕ). written a.n (shared_by a.n a.lane.now k a.supply l) l) d))
     (λ c. search rules)
     (λ c.
-    let s = c.before.before.before.before.before in
+    let s = c in
     let a = s.args in
     let l = a.cells.now in
-    let d : c.before.drawn.result ≡ drawn_on a.n l = c.before.drawn.ensures ∙ drawn_in_lem a.n l s.requires.1 s.requires.0 in
-    let t : (a.asks || ltb a.supply (drawn_on a.n l)) ≡ false = ap (λ (k : ℕ). a.asks || ltb a.supply k) (sym d) ∙ c.if1.false in
+    let d : c.drawn-drawn.result ≡ drawn_on a.n l = c.drawn-drawn.ensures ∙ drawn_in_lem a.n l s.requires.1 s.requires.0 in
+    let t : (a.asks || ltb a.supply (drawn_on a.n l)) ≡ false = ap (λ (k : ℕ). a.asks || ltb a.supply k) (sym d) ∙ c.if-asks-supply.false in
     simp t))

@@ -29,4 +29,4 @@ port_at_spec =
     (λ c. search rules)
     (λ c. search rules)
     (λ c. search rules)
-    (λ c. simp (c.before.before.before.before.before.before.state_of.ensures, c.before.before.before.latches_of.ensures, c.before.before.counts_at.ensures)))
+    (λ c. simp (c.state_of-state.ensures, c.latches_of-latches.ensures, c.counts_at-counts.ensures)))

@@ -32,5 +32,5 @@ put_port_spec =
     (λ c. search rules)
     (λ c. simp length-set (omega arith))
     (λ c κs. let s = c.before.before.before.before.before.before.before in (simp length-set s.requires.0, s.requires.1))
-    (λ c. ap length c.before.before.put_counts.ensures ∙ simp length-set)
-    (λ c. c.before.before.put_counts.ensures ∙ simp (c.before.before.before.before.before.before.code_of_lem.ensures, c.before.before.before.before.latch_cell.ensures)))
+    (λ c. ap length c.put_counts.ensures ∙ simp length-set)
+    (λ c. c.put_counts.ensures ∙ simp (c.code_of.ensures, c.latch_cell.ensures)))

@@ -27,10 +27,10 @@ unfolding settling_changes
 admitted true p l = refl
 admitted false p l = refl
 
-abbrev invariant_loop : tie.invariant_loop
+abbrev invariant_loop : tie.invariant-loop-p
 invariant_loop cells₀ n lane p₀ cells p = (p ≤ n) × (cells ≡ written n (stage p (admitted_by lane cells₀) (port_of cells₀)) cells₀)
 
-abbrev decreases_loop : tie.decreases_loop
+abbrev decreases_loop : tie.decreases-loop-p
 decreases_loop cells₀ n lane p₀ cells p = n - p
 
 pub admit_spec : {M : Type 1} → statement M
@@ -42,11 +42,11 @@ admit_spec =
     decreases_loop
     (λ c. let s = c.before.before in (omega arith, come_none s.args.n _ s.args.cells.now s.requires.1 s.requires.0 s.requires.3))
     (λ c. omega arith)
-    (λ c. omega (arith, c.before.before.before.before.before.before.requires.1, c.before.before.before.before.before.before.requires.2))
+    (λ c. omega (arith, c.requires.1, c.requires.2))
     (λ c κs.
-    let l = c.before.before.before.loop in
+    let l = c.loop-p in
     let s = c.before.before.before.before.before.before in
-    let t = c.before.before.loop-test.true in (
+    let t = c.loop-p-test.true in (
       come_long s.args.n _ s.args.cells.now s.requires.1 s.requires.0 l.p l.cells l.invariant.1,
       omega (arith, s.requires.1),
       omega (arith, come_class s.args.n _ s.args.cells.now s.requires.1 s.requires.0 l.p l.cells l.invariant.1 t, s.requires.4 l.p t),
@@ -54,21 +54,21 @@ admit_spec =
     (λ c. omega arith)
     (λ c. omega arith)
     (λ c.
-    let l = c.before.before.before.before.before.before.loop in
+    let l = c.loop-p in
     let s = c.before.before.before.before.before.before.before.before.before in
-    let t = c.before.before.before.before.before.loop-test.true in
+    let t = c.loop-p-test.true in
     let r = cond (is_set (get_or s.args.lane.now l.p 0)) 3 no_claim in (
       omega arith,
-      c.before.before.admit_port.ensures
+      c.admit_port.ensures
           ∙ admitted (is_set (get_or s.args.lane.now l.p 0)) l.p l.cells
           ∙ come_settled s.args.n (admitted_by s.args.lane.now s.args.cells.now) s.args.cells.now s.requires.1 s.requires.0 l.p l.cells l.invariant.1 t r true refl,
     ))
     (λ c.
-    let l = c.before.loop in
+    let l = c.loop-p in
     let s = c.before.before.before.before in
     come_long s.args.n _ s.args.cells.now s.requires.1 s.requires.0 l.p l.cells l.invariant.1 ∙ sym s.requires.0)
     (λ c.
-    let l = c.before.loop in
+    let l = c.loop-p in
     let s = c.before.before.before.before in
     let e : l.p ≡ s.args.n = le_antisymm l.invariant.0 (omega arith) in
     come_all s.args.n (admitted_by s.args.lane.now s.args.cells.now) s.args.cells.now s.requires.1 s.requires.0 l.cells (rw e at l.invariant.1)))

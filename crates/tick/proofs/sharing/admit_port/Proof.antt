@@ -20,8 +20,8 @@ admit_port_spec =
     (λ c κs. search rules)
     (λ c. search rules)
     (λ c.
-    let a = c.before.before.before.before.before.before.before.before.before.before.args in
+    let a = c.args in
     let l = a.cells.now in
-    let s : c.before.before.before.before.before.settled_port.result ≡ settled_as 3 true (port_of l a.p) = c.before.before.before.before.before.settled_port.ensures ∙ ap (settled_as 3 true) c.before.before.before.before.before.before.port_at_lem.ensures in
-    simp (ne_eqb _ _ c.before.before.before.before.before.before.before.before.if1.true) (c.before.before.put_port.ensures ∙ ap (λ (m : Moved). with_port_cells a.p m.port l) s))
-    (λ c. simp (eq-eqb _ _ c.if1.false)))
+    let s : c.settled_port-settled.result ≡ settled_as 3 true (port_of l a.p) = c.settled_port-settled.ensures ∙ ap (settled_as 3 true) c.port_at.ensures in
+    simp (ne_eqb _ _ c.if-asks-ne0.true) (c.put_port.ensures ∙ ap (λ (m : Moved). with_port_cells a.p m.port l) s))
+    (λ c. simp (eq-eqb _ _ c.if-asks-ne0.false)))

@@ -20,5 +20,5 @@ pub all_fit_spec : {M : Type 1} → statement M
 all_fit_spec =
     tie.close
     (tie.spec
-    (λ c. sym (lt-leb (c.before.args.drawn + c.before.args.wanted) c.before.args.supply (omega (arith, c.if1.true))))
-    (λ c. enough c.before.args.drawn c.before.args.wanted c.before.args.supply (omega (arith, c.if1.false))))
+    (λ c. sym (lt-leb (c.args.drawn + c.args.wanted) c.args.supply (omega (arith, c.if-supply-drawn.true))))
+    (λ c. enough c.args.drawn c.args.wanted c.args.supply (omega (arith, c.if-supply-drawn.false))))

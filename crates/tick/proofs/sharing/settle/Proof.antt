@@ -20,12 +20,12 @@ settle_spec =
     (λ c κs. search rules)
     (λ c. search rules)
     (λ c.
-    let a = c.before.before.before.before.before.before.before.before.before.before.before.args in
+    let a = c.args in
     let l = a.cells.now in
-    let t : settling_changes a.rank a.kept ≡ true = sym c.before.before.before.before.before.before.before.before.before.changes.ensures ∙ c.before.before.before.before.before.before.before.before.if1.true in
-    let s : c.before.before.before.before.before.settled_port.result ≡ settled_as a.rank a.kept (port_of l a.p) = c.before.before.before.before.before.settled_port.ensures ∙ ap (settled_as a.rank a.kept) c.before.before.before.before.before.before.port_at_lem.ensures in
-    simp t (c.before.before.put_port.ensures ∙ ap (λ (m : Moved). with_port_cells a.p m.port l) s))
+    let t : settling_changes a.rank a.kept ≡ true = sym c.changes.ensures ∙ c.if-changes.true in
+    let s : c.settled_port-settled.result ≡ settled_as a.rank a.kept (port_of l a.p) = c.settled_port-settled.ensures ∙ ap (settled_as a.rank a.kept) c.port_at.ensures in
+    simp t (c.put_port.ensures ∙ ap (λ (m : Moved). with_port_cells a.p m.port l) s))
     (λ c.
-    let a = c.before.before.before.args in
-    let t : settling_changes a.rank a.kept ≡ false = sym c.before.changes.ensures ∙ c.if1.false in
+    let a = c.args in
+    let t : settling_changes a.rank a.kept ≡ false = sym c.changes.ensures ∙ c.if-changes.false in
     simp t))

@@ -25,29 +25,29 @@ share_out_spec =
     (tie.spec
     (λ c κs. search rules)
     (λ c κs. search rules)
-    (λ c κs. let s = c.before.before.before.before.before.before.before in (s.requires.0, s.requires.1, s.requires.2, s.requires.3, s.requires.4))
+    (λ c κs. let s = c in (s.requires.0, s.requires.1, s.requires.2, s.requires.3, s.requires.4))
     (λ c κs. search rules)
     (λ c κs. search rules)
-    (λ c κs. let s = c.before.before.before.before.before.before.before.before.before.before.before in (s.requires.0, s.requires.1, s.requires.3, s.requires.4))
+    (λ c κs. let s = c in (s.requires.0, s.requires.1, s.requires.3, s.requires.4))
     (λ c. search rules)
     (λ c.
-    let s = c.before.before.before.before.before.before.before.before.before.before in
+    let s = c in
     let a = s.args in
     let l = a.cells.now in
     let lane = a.lane.now in
-    let w = c.before.before.before.before.before.before.wanted.ensures ∙ wanted_in_lem a.n lane l s.requires.1 s.requires.0 s.requires.2 in
-    let fits : leb (a.drawn + total a.n (λ q. wants (get_or lane q 0) l q)) a.supply ≡ true = ap (λ (k : ℕ). leb (a.drawn + k) a.supply) (sym w) ∙ sym c.before.before.before.before.before.all_fit.ensures ∙ c.before.before.before.before.if1.true in
-    c.before.before.admit.ensures ∙ written_cong a.n (admitted_by lane l) (shared_by a.n lane a.drawn a.supply l) l s.requires.1 (omega (arith, s.requires.0)) (λ p h. simp fits))
+    let w = c.wanted.ensures ∙ wanted_in_lem a.n lane l s.requires.1 s.requires.0 s.requires.2 in
+    let fits : leb (a.drawn + total a.n (λ q. wants (get_or lane q 0) l q)) a.supply ≡ true = ap (λ (k : ℕ). leb (a.drawn + k) a.supply) (sym w) ∙ sym c.all_fit.ensures ∙ c.if-all_fit.true in
+    c.admit.ensures ∙ written_cong a.n (admitted_by lane l) (shared_by a.n lane a.drawn a.supply l) l s.requires.1 (omega (arith, s.requires.0)) (λ p h. simp fits))
     (λ c. search rules)
     (λ c.
-    let s = c.before.before.before.before.before.before.before.before.before.before.before.before.before.before in
+    let s = c in
     let a = s.args in
     let l = a.cells.now in
     let lane = a.lane.now in
-    let w = c.before.before.before.before.before.before.before.before.before.before.wanted.ensures ∙ wanted_in_lem a.n lane l s.requires.1 s.requires.0 s.requires.2 in
-    let over : leb (a.drawn + total a.n (λ q. wants (get_or lane q 0) l q)) a.supply ≡ false = ap (λ (k : ℕ). leb (a.drawn + k) a.supply) (sym w) ∙ sym c.before.before.before.before.before.before.before.before.before.all_fit.ensures ∙ c.before.before.before.before.before.before.before.before.if1.false in
-    let claims = c.before.before.before.before.before.before.claims_of_lem.ensures ∙ claims_in_lem a.n lane l s.requires.1 s.requires.0 s.requires.2 in
-    let kept : c.before.before.before.kept.result ≡ kept_on (ranks_on a.n lane l) (demands_on a.n l) a.supply = c.before.before.before.kept.ensures ∙ ap (λ (k : Claims). kept_on k.ranks k.demands a.supply) claims in
-    c.before.before.settle_all.ensures
+    let w = c.wanted.ensures ∙ wanted_in_lem a.n lane l s.requires.1 s.requires.0 s.requires.2 in
+    let over : leb (a.drawn + total a.n (λ q. wants (get_or lane q 0) l q)) a.supply ≡ false = ap (λ (k : ℕ). leb (a.drawn + k) a.supply) (sym w) ∙ sym c.all_fit.ensures ∙ c.if-all_fit.false in
+    let claims = c.claims_of-claims.ensures ∙ claims_in_lem a.n lane l s.requires.1 s.requires.0 s.requires.2 in
+    let kept : c.kept.result ≡ kept_on (ranks_on a.n lane l) (demands_on a.n l) a.supply = c.kept.ensures ∙ ap (λ (k : Claims). kept_on k.ranks k.demands a.supply) claims in
+    c.settle_all.ensures
     ∙ ap₂ (λ (r : List ℕ) (k : List Bool). written a.n (settled_by r k l) l) (ap (λ (k : Claims). k.ranks) claims) kept
     ∙ written_cong a.n (settled_by (ranks_on a.n lane l) (kept_on (ranks_on a.n lane l) (demands_on a.n l) a.supply) l) (shared_by a.n lane a.drawn a.supply l) l s.requires.1 (omega (arith, s.requires.0)) (λ p h. simp over)))

@@ -34,5 +34,5 @@ sample_spec =
     (λ c κs. search rules)
     (λ c. search rules)
     (λ c. search rules)
-    (λ c. ap (λ (x : Sampled). got x nothing) (sym c.before.s.given.1 ∙ c.before.before.before.sample_of.ensures ∙ whole c.before.before.before.before.before.args.block.now c.before.before.before.before.before.args.port c.before.before.before.before.before.requires))
-    (λ c. ap (λ (x : Sampled). got x nothing) (sym c.enum_told.given.1 ∙ c.before.before.sample_of.ensures ∙ whole c.before.before.before.before.args.block.now c.before.before.before.before.args.port c.before.before.before.before.requires)))
+    (λ c. ap (λ (x : Sampled). got x nothing) (sym c.in-Is.is ∙ c.sample_of.ensures ∙ whole c.args.block.now c.args.port c.requires))
+    (λ c. ap (λ (x : Sampled). got x nothing) (sym c.in-Cut.is ∙ c.sample_of.ensures ∙ whole c.args.block.now c.args.port c.requires)))

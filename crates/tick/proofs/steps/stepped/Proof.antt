@@ -17,7 +17,7 @@ unfolding whole_move marked_move
 stepped_spec =
     tie.close
     (tie.spec
-    (λ c. let e = eq-eqb _ _ c.if1.true in (simp e, simp e))
+    (λ c. let e = eq-eqb _ _ c.if-mark-eq0.true in (simp e, simp e))
     (λ c κs. search rules)
     (λ c κs. search rules)
     (λ c κs. search rules)
@@ -25,9 +25,9 @@ stepped_spec =
     (λ c κs. search rules)
     (λ c. search rules)
     (λ c.
-    let a = c.before.before.before.before.before.before.before.before.before.before.before.before.before.args in
+    let a = c.args in
     let l = a.cells.now in
-    let e = ne_eqb _ _ c.before.before.before.before.before.before.before.before.before.before.if1.false in
-    let s : c.before.before.before.before.before.step.result ≡ whole_move a.block.now l a.p =
-    c.before.before.before.before.before.step.ensures ∙ ap₂ (step forced) c.before.before.before.before.before.before.before.before.port_at_lem.ensures (c.before.before.before.before.before.before.digest_of.ensures ∙ ap digest c.before.before.before.before.before.before.before.sample.ensures) in
-    (simp e (ap (λ (m : Moved). m.asks) s), simp e (c.before.before.put_port.ensures ∙ ap (λ (m : Moved). with_port_cells a.p m.port l) s))))
+    let e = ne_eqb _ _ c.if-mark-eq0.false in
+    let s : c.step-moved.result ≡ whole_move a.block.now l a.p =
+    c.step-moved.ensures ∙ ap₂ (step forced) c.port_at.ensures (c.digest_of.ensures ∙ ap digest c.sample.ensures) in
+    (simp e (ap (λ (m : Moved). m.asks) s), simp e (c.put_port.ensures ∙ ap (λ (m : Moved). with_port_cells a.p m.port l) s))))

@@ -34,11 +34,11 @@ asking lane block l p = one (move lane block l p).asks
 abbrev some : ℕ → List ℕ → List ℕ → List ℕ → Bool
 some p lane block l = some_below p (λ q. (move lane block l q).asks)
 
-abbrev invariant_loop : tie.invariant_loop
+abbrev invariant_loop : tie.invariant-loop-p
 invariant_loop cells₀ n block lane₀ some₀ p₀ cells lane some' p =
     (p ≤ n) × (cells ≡ written n (stage p (stepped_port lane₀ block cells₀) (port_of cells₀)) cells₀) × Filled 0 (asking lane₀ block cells₀) lane₀ p lane × (some' ≡ some p lane₀ block cells₀)
 
-abbrev decreases_loop : tie.decreases_loop
+abbrev decreases_loop : tie.decreases-loop-p
 decreases_loop cells₀ n block lane₀ some₀ p₀ cells lane some' p = n - p
 
 -- a port without a mark stays as it is, and asks for nothing
@@ -59,21 +59,21 @@ steps_spec =
     invariant_loop
     decreases_loop
     (λ c.
-    let s = c.before.before.before in
+    let s = c in
     (omega arith, come_none s.args.n _ s.args.cells.now s.requires.1 s.requires.0 s.requires.4, filled_none _ _ _, refl))
     (λ c κs.
-    let l = c.before.before.loop in
-    let s = c.before.before.before.before.before.before in
-    (l.invariant.2.long ∙ s.requires.3, c.before.loop-test.true, s.requires.1))
-    (λ c. omega (arith, c.before.before.before.before.loop.invariant.0, c.before.before.before.before.before.before.before.before.requires.1))
-    (λ c. omega (arith, c.before.before.before.loop-test.true))
+    let l = c.loop-p in
+    let s = c in
+    (l.invariant.2.long ∙ s.requires.3, c.loop-p-test.true, s.requires.1))
+    (λ c. omega (arith, c.loop-p.invariant.0, c.requires.1))
+    (λ c. omega (arith, c.loop-p-test.true))
     (λ c.
-    let l = c.before.before.before.before.loop in
-    let s = c.before.before.before.before.before.before.before.before in
+    let l = c.loop-p in
+    let s = c in
     let lane₀ = s.args.lane.now in
     let block = s.args.block.now in
     let cells₀ = s.args.cells.now in
-    let clear = c.before.clear_ahead.ensures c.if1.true in
+    let clear = c.clear_ahead.ensures c.if-clear_ahead.true in
     let zero : (q : ℕ) → l.p ≤ q → q < l.p + 8 → get_or l.lane q 0 ≡ 0 = λ q a b.
     ap (λ (k : ℕ). get_or l.lane k 0) (let x : q ≡ l.p + (q - l.p) = omega arith in x) ∙ clear.1 (q - l.p) (omega arith) in
     let plain : (q : ℕ) → l.p ≤ q → q < l.p + 8 → get_or lane₀ q 0 ≡ 0 = λ q a b. sym (l.invariant.2.left q a) ∙ zero q a b in (
@@ -83,11 +83,11 @@ steps_spec =
       l.invariant.3 ∙ sym (some_skip (λ q. (move lane₀ block cells₀ q).asks) l.p 8 (λ q a b. (unmarked lane₀ block cells₀ q (plain q a b)).1)),
     ))
     (λ c. omega arith)
-    (λ c. omega (arith, c.before.before.before.before.before.before.loop.invariant.2.long, c.before.before.before.before.before.before.before.before.before.before.requires.1, c.before.before.before.before.before.before.before.before.before.before.requires.3))
+    (λ c. omega (arith, c.loop-p.invariant.2.long, c.requires.1, c.requires.3))
     (λ c κs.
-    let l = c.before.before.before.before.before.before.loop in
-    let s = c.before.before.before.before.before.before.before.before.before.before in
-    let t = c.before.before.before.before.before.loop-test.true in (
+    let l = c.loop-p in
+    let s = c in
+    let t = c.loop-p-test.true in (
       come_long s.args.n _ s.args.cells.now s.requires.1 s.requires.0 l.p l.cells l.invariant.1,
       omega (arith, s.requires.1),
       omega (arith, s.requires.2),
@@ -95,17 +95,17 @@ steps_spec =
     ))
     (λ c κs. search rules)
     (λ c. omega arith)
-    (λ c. omega (arith, c.before.before.before.before.before.before.before.before.before.before.loop.invariant.2.long, c.before.before.before.before.before.before.before.before.before.before.before.before.before.before.requires.1, c.before.before.before.before.before.before.before.before.before.before.before.before.before.before.requires.3))
+    (λ c. omega (arith, c.loop-p.invariant.2.long, c.requires.1, c.requires.3))
     (λ c. omega arith)
     (λ c. omega arith)
     (λ c.
-    let l = c.before.before.before.before.before.before.before.before.before.before.loop in
-    let s = c.before.before.before.before.before.before.before.before.before.before.before.before.before.before in
-    let t = c.before.before.before.before.before.before.before.before.before.loop-test.true in
+    let l = c.loop-p in
+    let s = c in
+    let t = c.loop-p-test.true in
     let lane₀ = s.args.lane.now in
     let block = s.args.block.now in
     let cells₀ = s.args.cells.now in
-    let q = c.before.before.before.stepped in
+    let q = c.stepped-asks in
     let mark : get_or l.lane l.p 0 ≡ get_or lane₀ l.p 0 = l.invariant.2.left l.p (omega arith) in
     let asks : q.result ≡ (move lane₀ block cells₀ l.p).asks =
     q.ensures.0 ∙ ap (λ (k : ℕ). (marked_move k block l.cells l.p).asks) mark
@@ -117,13 +117,13 @@ steps_spec =
       ap₂ ◌||◌ l.invariant.3 asks ∙ ap (λ (k : ℕ). some k lane₀ block cells₀) (sym (add-one l.p)),
     ))
     (λ c.
-    let l = c.before.loop in
-    let s = c.before.before.before.before.before in
+    let l = c.loop-p in
+    let s = c in
     come_long s.args.n _ s.args.cells.now s.requires.1 s.requires.0 l.p l.cells l.invariant.1 ∙ sym s.requires.0)
-    (λ c. c.before.loop.invariant.2.long)
+    (λ c. c.loop-p.invariant.2.long)
     (λ c.
-    let l = c.before.loop in
-    let s = c.before.before.before.before.before in
+    let l = c.loop-p in
+    let s = c in
     let lane₀ = s.args.lane.now in
     let block = s.args.block.now in
     let cells₀ = s.args.cells.now in
