@@ -24,5 +24,5 @@ gives_class_spec =
     (λ c κs. search rules)
     (λ c κs. search rules)
     (λ c.
-    ap₂ ◌&&◌ (ap (λ (n : ℕ). eqb (n / 2 % 2) 1) c.before.before.before.word_at.ensures.0)
-    (c.is_class_row.ensures ∙ ap₂ (λ (x y : ℕ). is_class (class_of_two x y).shown) c.before.before.word_at2.ensures.0 c.before.word_at3.ensures.0)))
+    ap₂ ◌&&◌ (ap (λ (n : ℕ). eqb (n / 2 % 2) 1) c.word_at.ensures.0)
+    (c.is_class.ensures ∙ ap₂ (λ (x y : ℕ). is_class (class_of_two x y).shown) c.word_at-2.ensures.0 c.word_at-3.ensures.0)))

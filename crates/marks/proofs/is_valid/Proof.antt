@@ -6,20 +6,20 @@ use Rattle.marks.proofs.Readings.{out_fails, flat_fails, steep, slope_is}
 use Rattle.marks.proofs.is_valid.Statement.{statement}
 use Rattle.marks.proofs.is_valid.Tie as tie
 
-rising : (c : tie.Else2) → (c.before.before.args.v1 + 1000 ≤ c.before.before.args.v2) × (c.before.before.args.i1 < c.before.before.args.i2)
-rising c = steep _ _ _ _ c.if2.false
+rising : (c : tie.Else-v2-v1) → (c.args.v1 + 1000 ≤ c.args.v2) × (c.args.i1 < c.args.i2)
+rising c = steep _ _ _ _ c.if-v2-v1.false
 
 pub is_valid_spec : {M : Type 1} → statement M
 is_valid_spec =
     tie.close
     (tie.spec
-    (λ c. out_fails _ _ _ _ c.if1.true)
+    (λ c. out_fails _ _ _ _ c.if-v1-v2.true)
     (λ c. search rules)
-    (λ c. flat_fails _ _ _ _ c.if2.true)
+    (λ c. flat_fails _ _ _ _ c.if-v2-v1.true)
     (λ c. let s = rising c in omega arith)
     (λ c. let s = rising c in omega arith)
     (λ c. search rules)
     (λ c. search rules)
     (λ c. search rules)
     (λ c. search rules)
-    (λ c. slope_is _ _ _ _ c.before.if1.false c.if2.false))
+    (λ c. slope_is _ _ _ _ c.if-v1-v2.false c.if-v2-v1.false))

@@ -11,8 +11,8 @@ unfolding noted_mark
 noted_spec =
     tie.close
     (tie.spec
-    (λ c. simp (eq-eqb _ _ c.if1.true))
-    (λ c. simp (ne_eqb _ _ c.before.if1.false, eq-eqb _ _ c.if2.true))
+    (λ c. simp (eq-eqb _ _ c.if-state-eq1.true))
+    (λ c. simp (ne_eqb _ _ c.if-state-eq1.false, eq-eqb _ _ c.if-mark-eq-IN_IDLE.true))
     (λ c κs. search rules)
-    (λ c. c.seen.ensures ∙ simp (ne_eqb _ _ c.before.before.before.if1.false, ne_eqb _ _ c.before.before.if2.false, c.before.if3.true))
-    (λ c. simp (ne_eqb _ _ c.before.before.if1.false, ne_eqb _ _ c.before.if2.false, c.if3.false)))
+    (λ c. c.seen.ensures ∙ simp (ne_eqb _ _ c.if-state-eq1.false, ne_eqb _ _ c.if-mark-eq-IN_IDLE.false, c.if-ticked.true))
+    (λ c. simp (ne_eqb _ _ c.if-state-eq1.false, ne_eqb _ _ c.if-mark-eq-IN_IDLE.false, c.if-ticked.false)))

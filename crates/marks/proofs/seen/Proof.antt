@@ -11,11 +11,11 @@ use Rattle.marks.proofs.seen.Statement.{statement}
 use Rattle.marks.proofs.seen.Tie as tie
 
 -- the two tests
-first : (c : tie.After-shows-signature) → (eqb c.before.before.args.mark 1 && shows_signature (sample_at c.before.before.args.block.now (14 * c.before.before.args.p))) ≡ (eqb c.before.before.args.mark 1 && c.shows_signature.result)
-first c = ap (λ (b : Bool). eqb c.before.before.args.mark 1 && b) (sym c.shows_signature.ensures)
+first : (c : tie.After-shows_signature) → (eqb c.args.mark 1 && shows_signature (sample_at c.args.block.now (14 * c.args.p))) ≡ (eqb c.args.mark 1 && c.shows_signature.result)
+first c = ap (λ (b : Bool). eqb c.args.mark 1 && b) (sym c.shows_signature.ensures)
 
-then : (c : tie.After-gives-class) → (eqb c.before.before.before.before.args.mark 2 && gives_class (sample_at c.before.before.before.before.args.block.now (14 * c.before.before.before.before.args.p))) ≡ (eqb c.before.before.before.before.args.mark 2 && c.gives_class.result)
-then c = ap (λ (b : Bool). eqb c.before.before.before.before.args.mark 2 && b) (sym c.gives_class.ensures)
+then : (c : tie.After-gives_class) → (eqb c.args.mark 2 && gives_class (sample_at c.args.block.now (14 * c.args.p))) ≡ (eqb c.args.mark 2 && c.gives_class.result)
+then c = ap (λ (b : Bool). eqb c.args.mark 2 && b) (sym c.gives_class.ensures)
 
 pub seen_spec : {M : Type 1} → statement M
 unfolding seen_mark
@@ -24,7 +24,7 @@ seen_spec =
     (tie.spec
     (λ c. search rules)
     (λ c κs. search rules)
-    (λ c. simp (first c.before ∙ c.if1.true))
+    (λ c. simp (first c.before ∙ c.if-mark-shows_signature.true))
     (λ c κs. search rules)
-    (λ c. simp (first c.before.before.before ∙ c.before.before.if1.false, then c.before ∙ c.if2.true))
-    (λ c. simp (first c.before.before.before ∙ c.before.before.if1.false, then c.before ∙ c.if2.false)))
+    (λ c. simp (first c.before.before.before ∙ c.if-mark-shows_signature.false, then c.before ∙ c.if-mark-gives_class.true))
+    (λ c. simp (first c.before.before.before ∙ c.if-mark-shows_signature.false, then c.before ∙ c.if-mark-gives_class.false)))

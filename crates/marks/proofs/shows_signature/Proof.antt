@@ -35,7 +35,7 @@ shows_signature_spec =
     (λ c κs. search rules)
     (λ c κs. search rules)
     (λ c.
-    let w = c.before.before.before.before in
-    ap₂ ◌&&◌ (ap (λ (n : ℕ). eqb (n % 2) 1) w.before.word_at.ensures.0 ∙ lowest _)
+    let w = c in
+    ap₂ ◌&&◌ (ap (λ (n : ℕ). eqb (n % 2) 1) w.word_at.ensures.0 ∙ lowest _)
     (c.is_valid.ensures
-    ∙ valid_of _ _ _ _ _ _ _ _ w.word_at2.ensures.0 c.before.before.before.word_at3.ensures.0 c.before.before.word_at4.ensures.0 c.before.word_at5.ensures.0)))
+    ∙ valid_of _ _ _ _ _ _ _ _ w.word_at-2.ensures.0 c.word_at-3.ensures.0 c.word_at-4.ensures.0 c.word_at-5.ensures.0)))

@@ -13,9 +13,9 @@ fields_given_spec =
     (tie.spec
     (λ c κs. search rules)
     (λ c. search rules)
-    (λ c κs. (octets c.before.before.args.numbers.now c.before.before.requires).0)
+    (λ c κs. (octets c.args.numbers.now c.requires).0)
     (λ c. search rules)
-    (λ c κs. (octets c.before.before.before.before.args.numbers.now c.before.before.before.before.requires).1)
+    (λ c κs. (octets c.args.numbers.now c.requires).1)
     (λ c. search rules)
-    (λ c κs. (octets c.before.before.before.before.before.before.args.numbers.now c.before.before.before.before.before.before.requires).2)
-    (λ c. simp (c.before.before.before.before.before.before.form_given.ensures, c.before.before.before.before.octet.ensures, c.before.before.octet2.ensures, c.octet3.ensures)))
+    (λ c κs. (octets c.args.numbers.now c.requires).2)
+    (λ c. simp (c.form_given-form.ensures, c.octet.ensures, c.octet-2.ensures, c.octet-3.ensures)))

@@ -16,8 +16,8 @@ ipaqsuni_find_power_tlv_spec =
     (λ c. search rules)
     (λ c. search rules)
     (λ c.
-    let e = ap of_search (sym c.before.before.before.search.ensures ∙ c.before.at.given.1) in
+    let e = ap of_search (sym c.search.ensures ∙ c.in-Is.is) in
     (simp e, (simp e, simp e)))
     (λ c.
-    let e = ap of_search (sym c.before.before.before.search.ensures ∙ c.before.number.given.1) in
+    let e = ap of_search (sym c.search.ensures ∙ c.in-Refused.is) in
     (simp e, (simp e, simp e))))

@@ -14,12 +14,12 @@ ipaqsuni_read_power_tlv_spec =
     (tie.spec
     (λ c κs. search rules)
     (λ c. search rules)
-    (λ c κs. narrow c.before.before.before.before.before.args.tlv.now _ (sym c.before.before.before.read.ensures ∙ c.before.taken.given.1))
+    (λ c κs. narrow c.args.tlv.now _ (sym c.read.ensures ∙ c.in-Is.is))
     (λ c. search rules)
     (λ c. search rules)
     (λ c.
-    let e = ap of_read (sym c.before.before.before.before.read.ensures ∙ c.before.before.taken.given.1) in
-    (simp e, simp e c.Numbers-of.ensures))
+    let e = ap of_read (sym c.read.ensures ∙ c.in-Is.is) in
+    (simp e, simp e c.numbers_of.ensures))
     (λ c.
-    let e = ap of_read (sym c.before.before.before.read.ensures ∙ c.before.number.given.1) in
+    let e = ap of_read (sym c.read.ensures ∙ c.in-Refused.is) in
     (simp e, simp e)))

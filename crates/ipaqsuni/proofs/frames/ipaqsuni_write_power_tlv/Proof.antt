@@ -12,23 +12,23 @@ ipaqsuni_write_power_tlv_spec =
     (tie.spec
     (λ c κs. search rules)
     (λ c.
-    let e = not_given c.before.before.before.args.fields.now c.before.before.before.args.room.now (sym c.before.no_fields.ensures ∙ c.if1.true) in
+    let e = not_given c.args.fields.now c.args.room.now (sym c.no_fields.ensures ∙ c.if-no_fields.true) in
     (simp e, (simp e, simp e)))
-    (λ c κs. sym c.before.no_fields.ensures ∙ c.if1.false)
+    (λ c κs. sym c.no_fields.ensures ∙ c.if-no_fields.false)
     (λ c κs. search rules)
     (λ c. search rules)
     (λ c. search rules)
     (λ c. search rules)
     (λ c. search rules)
     (λ c.
-    let a = c.before.before.before.before.before.before.before.before.before.before.before.args in
-    let w = c.before.before.before.before.before.write in
-    let e = wrote a.fields.now a.room.now (sym c.before.before.before.before.before.before.before.before.before.no_fields.ensures ∙ c.before.before.before.before.before.before.before.before.if1.false) _ c.before.before.before.before.before.before.before.fields_given.ensures _ (sym w.ensures.0 ∙ c.before.size.given.1) in
+    let a = c.args in
+    let w = c.write in
+    let e = wrote a.fields.now a.room.now (sym c.no_fields.ensures ∙ c.if-no_fields.false) _ c.fields_given.ensures _ (sym w.ensures.0 ∙ c.in-Is.is) in
     (simp e, (simp e w.ensures.1, simp e)))
     (λ c. search rules)
     (λ c.
-    let a = c.before.before.before.before.before.before.before.before.before.before.before.args in
-    let w = c.before.before.before.before.before.write in
-    let told = sym w.ensures.0 ∙ c.before.number.given.1 in
-    let e = not_wrote a.fields.now a.room.now (sym c.before.before.before.before.before.before.before.before.before.no_fields.ensures ∙ c.before.before.before.before.before.before.before.before.if1.false) _ c.before.before.before.before.before.before.before.fields_given.ensures _ told in
+    let a = c.args in
+    let w = c.write in
+    let told = sym w.ensures.0 ∙ c.in-Refused.is in
+    let e = not_wrote a.fields.now a.room.now (sym c.no_fields.ensures ∙ c.if-no_fields.false) _ c.fields_given.ensures _ told in
     (simp e, (simp e (w.ensures.1 ∙ kept _ _ _ told), simp e))))

@@ -14,5 +14,5 @@ ipaqsuni_cold_start_spec =
     (λ c κs. search rules)
     (λ c. search rules)
     (λ c.
-    let told = c.before.before.before.cold_start.ensures in
-    (c.number_of_lem.ensures ∙ ap answer_number told.0, told.1)))
+    let told = c.cold_start.ensures in
+    (c.number_of.ensures ∙ ap answer_number told.0, told.1)))

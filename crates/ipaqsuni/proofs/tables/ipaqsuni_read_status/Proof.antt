@@ -16,11 +16,11 @@ ipaqsuni_read_status_spec =
     (λ c. search rules)
     (λ c. search rules)
     (λ c.
-    let told = c.before.before.before.before.before.read_status.ensures in
-    let e = sym told.0 ∙ c.before.word.given.1 in
+    let told = c.read_status.ensures in
+    let e = sym told.0 ∙ c.in-Word.is in
     (simp e, (told.1, simp e)))
     (λ c. search rules)
     (λ c.
-    let told = c.before.before.before.before.before.read_status.ensures in
-    let e = sym told.0 ∙ c.before.number.given.1 in
+    let told = c.read_status.ensures in
+    let e = sym told.0 ∙ c.in-Refused.is in
     (simp e, (told.1, simp e))))

@@ -14,5 +14,5 @@ ipaqsuni_request_spec =
     (λ c κs. search rules)
     (λ c. search rules)
     (λ c.
-    let told = c.before.before.before.request.ensures in
-    (c.number_of_lem.ensures ∙ ap answer_number told.0, told.1)))
+    let told = c.request.ensures in
+    (c.number_of.ensures ∙ ap answer_number told.0, told.1)))

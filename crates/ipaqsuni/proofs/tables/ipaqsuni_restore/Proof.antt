@@ -14,9 +14,9 @@ ipaqsuni_restore_spec =
     (λ c κs. search rules)
     (λ c. search rules)
     (λ c.
-    let told = c.before.before.before.load.ensures in
-    (simp (sym told.0 ∙ c.if1.true), told.1))
+    let told = c.load.ensures in
+    (simp (sym told.0 ∙ c.if-load.true), told.1))
     (λ c. search rules)
     (λ c.
-    let told = c.before.before.before.load.ensures in
-    (simp (sym told.0 ∙ c.if1.false), told.1)))
+    let told = c.load.ensures in
+    (simp (sym told.0 ∙ c.if-load.false), told.1)))

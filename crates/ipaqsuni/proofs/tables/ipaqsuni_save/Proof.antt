@@ -14,17 +14,17 @@ ipaqsuni_save_spec =
     (λ c κs. search rules)
     (λ c. search rules)
     (λ c.
-    let a = c.before.before.before.before.before.before.before.args in
-    let told = c.before.before.before.store.ensures in
-    (sym (saves_zero a.cells.now a.image.now (sym told.0 ∙ c.if1.true)), told.1))
+    let a = c.args in
+    let told = c.store.ensures in
+    (sym (saves_zero a.cells.now a.image.now (sym told.0 ∙ c.if-store.true)), told.1))
     (λ c κs. search rules)
     (λ c. search rules)
     (λ c.
-    let a = c.before.before.before.before.before.before.before.before.before.args in
-    let told = c.before.before.before.before.before.store.ensures in
-    (sym (number_room a.cells.now a.image.now (sym told.0 ∙ c.before.before.if1.false) (sym c.before.imageable.ensures ∙ c.if2.true)), told.1))
+    let a = c.args in
+    let told = c.store.ensures in
+    (sym (number_room a.cells.now a.image.now (sym told.0 ∙ c.if-store.false) (sym c.imageable.ensures ∙ c.if-imageable.true)), told.1))
     (λ c. search rules)
     (λ c.
-    let a = c.before.before.before.before.before.before.before.before.before.args in
-    let told = c.before.before.before.before.before.store.ensures in
-    (sym (number_cells a.cells.now a.image.now (sym c.before.imageable.ensures ∙ c.if2.false)), told.1)))
+    let a = c.args in
+    let told = c.store.ensures in
+    (sym (number_cells a.cells.now a.image.now (sym c.imageable.ensures ∙ c.if-imageable.false)), told.1)))

@@ -15,11 +15,11 @@ ipaqsuni_tick_spec =
     (λ c. search rules)
     (λ c. search rules)
     (λ c.
-    let told = c.before.before.before.before.before.tick.ensures in
-    let e = sym told.0 ∙ c.before.mask_a.given.1 in
+    let told = c.tick.ensures in
+    let e = sym told.0 ∙ c.in-Ports.is in
     (simp e, (told.1, (simp e, (simp e, simp e)))))
     (λ c. search rules)
     (λ c.
-    let told = c.before.before.before.before.before.tick.ensures in
-    let e = sym told.0 ∙ c.before.number.given.1 in
+    let told = c.tick.ensures in
+    let e = sym told.0 ∙ c.in-Refused.is in
     (simp e, (told.1, (simp e, (simp e, simp e))))))

@@ -13,4 +13,4 @@ byte_at_spec =
     (λ c. search rules)
     (λ c κs. search rules)
     (λ c. search rules)
-    (λ c. (sym (get_or-eq_default c.before.before.args.bytes.now 0 (omega arith)), omega arith)))
+    (λ c. (sym (get_or-eq_default c.args.bytes.now 0 (omega arith)), omega arith)))

@@ -13,8 +13,8 @@ word_at_spec =
     tie.close
     (tie.spec
     (λ c.
-    let b = c.before.before.args.bytes.now in
-    let at = c.before.before.args.at in
+    let b = c.args.bytes.now in
+    let at = c.args.at in
     (omega (arith, get_or-eq_default b 0 {n = at} (omega arith), get_or-eq_default b 0 {n = at + 1} (omega arith)), omega arith))
     (λ c κs. search rules)
     (λ c. search rules)
