@@ -18,29 +18,29 @@ call_spec =
     (λ c κs. search rules)
     (λ c. search rules)
     (λ c.
-    let k = eq-eqb _ _ c.before.before.before.before.if1.true in
-    (simp k, c.before.before.ipaqsuni_write_control.ensures.1 ∙ simp k))
+    let k = eq-eqb _ _ c.if-kind-eq0.true in
+    (simp k, c.ipaqsuni_write_control.ensures.1 ∙ simp k))
     (λ c κs. search rules)
     (λ c. search rules)
     (λ c.
-    let t = c.before.before.before.before.before in
-    let n0 = ne_eqb _ _ t.before.if1.false in
-    let k = eq-eqb _ _ t.if2.true in
-    (simp (n0, k), c.before.before.ipaqsuni_read_status.ensures.1.0 ∙ simp (n0, k)))
+    let t = c in
+    let n0 = ne_eqb _ _ t.if-kind-eq0.false in
+    let k = eq-eqb _ _ t.if-kind-eq1.true in
+    (simp (n0, k), c.ipaqsuni_read_status.ensures.1.0 ∙ simp (n0, k)))
     (λ c κs. search rules)
     (λ c. search rules)
     (λ c.
-    let t = c.before.before.before.before in
-    let n0 = ne_eqb _ _ t.before.before.if1.false in
-    let n1 = ne_eqb _ _ t.before.if2.false in
-    let k = eq-eqb _ _ t.if3.true in
-    (simp (n0, n1, k), c.before.before.ipaqsuni_request.ensures.1 ∙ simp (n0, n1, k)))
+    let t = c in
+    let n0 = ne_eqb _ _ t.if-kind-eq0.false in
+    let n1 = ne_eqb _ _ t.if-kind-eq1.false in
+    let k = eq-eqb _ _ t.if-kind-eq2.true in
+    (simp (n0, n1, k), c.ipaqsuni_request.ensures.1 ∙ simp (n0, n1, k)))
     (λ c κs. search rules)
     (λ c. search rules)
     (λ c.
-    let t = c.before.before.before in
-    let e = t.before.before in
-    let n0 = ne_eqb _ _ e.before.before.if1.false in
-    let n1 = ne_eqb _ _ e.before.if2.false in
-    let n2 = ne_eqb _ _ e.if3.false in
-    (ap (λ (x : TickAnswer). eqb x.number 0) t.tick.ensures.0 ∙ zero_accepted _ _ _ ∙ simp (n0, n1, n2), t.tick.ensures.1 ∙ simp (n0, n1, n2))))
+    let t = c in
+    let e = t in
+    let n0 = ne_eqb _ _ e.if-kind-eq0.false in
+    let n1 = ne_eqb _ _ e.if-kind-eq1.false in
+    let n2 = ne_eqb _ _ e.if-kind-eq2.false in
+    (ap (λ (x : TickAnswer). eqb x.number 0) t.tick-answer.ensures.0 ∙ zero_accepted _ _ _ ∙ simp (n0, n1, n2), t.tick-answer.ensures.1 ∙ simp (n0, n1, n2))))

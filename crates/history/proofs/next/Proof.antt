@@ -14,5 +14,5 @@ next_spec =
     (λ c. search rules)
     (λ c κs. search rules)
     (λ c.
-    let t = c.before.before.before.before.before in
-    (t.call.ensures.1, noted_as _ _ _ _ _ _ c.before.note.ensures t.call.ensures.0)))
+    let t = c in
+    (t.call-ticked.ensures.1, noted_as _ _ _ _ _ _ c.note.ensures t.call-ticked.ensures.0)))

@@ -10,5 +10,5 @@ tick_spec =
     (λ c κs. search rules)
     (λ c. search rules)
     (λ c.
-    let told = c.before.before.ipaqsuni_tick.ensures in
+    let told = c.ipaqsuni_tick-number.ensures in
     (λ k. record { number = told.0 k; a = told.1.1.0 k; b = told.1.1.1.0 k }, told.1.0)))

@@ -20,5 +20,5 @@ tick_from_spec =
     (λ c. search rules)
     (λ c κs. search rules)
     (λ c.
-    let told = c.before.before.before.before.before.before.tick.ensures in
-    (told.1, (noted_as _ _ _ _ _ _ c.before.note.ensures (ap (λ (x : TickAnswer). eqb x.number 0) told.0 ∙ zero_accepted _ _ _), told.0))))
+    let told = c.tick-answer.ensures in
+    (told.1, (noted_as _ _ _ _ _ _ c.note.ensures (ap (λ (x : TickAnswer). eqb x.number 0) told.0 ∙ zero_accepted _ _ _), told.0))))

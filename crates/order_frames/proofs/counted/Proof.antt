@@ -9,6 +9,6 @@ unfolding counted_number
 counted_spec =
     tie.close
     (tie.spec
-    (λ c. simp (lt-ltb _ _ c.if1.true))
-    (λ c. simp (le-ltb _ _ c.before.if1.false, eq-eqb _ _ c.if2.true))
-    (λ c. simp (le-ltb _ _ c.before.if1.false, ne_eqb _ _ c.if2.false)))
+    (λ c. simp (lt-ltb _ _ c.if-powers-gt1.true))
+    (λ c. simp (le-ltb _ _ c.if-powers-gt1.false, eq-eqb _ _ c.if-powers-eq0.true))
+    (λ c. simp (le-ltb _ _ c.if-powers-gt1.false, ne_eqb _ _ c.if-powers-eq0.false)))

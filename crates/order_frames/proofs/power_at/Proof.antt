@@ -13,41 +13,41 @@ power_at_spec =
     (tie.spec
     (λ c κs. omega arith)
     (λ c.
-    let a = c.before.before.before.args in
-    let word_at = c.before.word_at in
-    (simp (no_power a.bytes.now a.at word_at.result word_at.ensures.0 word_at.ensures.1 c.if1.true), omega arith))
+    let a = c.args in
+    let word_at = c.word_at-header in
+    (simp (no_power a.bytes.now a.at word_at.result word_at.ensures.0 word_at.ensures.1 c.if-header.true), omega arith))
     (λ c. search rules)
     (λ c.
-    let a = c.before.before.before.before.args in
-    let pre = c.before.before.before.before.requires in
-    let long = six a.bytes.now a.at c.before.before.word_at.result c.before.before.word_at.ensures.0 c.before.if1.false (pre) in omega arith)
+    let a = c.args in
+    let pre = c.requires in
+    let long = six a.bytes.now a.at c.word_at-header.result c.word_at-header.ensures.0 c.if-header.false (pre) in omega arith)
     (λ c. search rules)
     (λ c.
-    let a = c.before.before.before.before.before.args in
-    let word_at = c.before.before.before.word_at in
-    let pre = c.before.before.before.before.before.requires in
-    let long = six a.bytes.now a.at word_at.result word_at.ensures.0 c.before.before.if1.false (pre) in omega arith)
+    let a = c.args in
+    let word_at = c.word_at-header in
+    let pre = c.requires in
+    let long = six a.bytes.now a.at word_at.result word_at.ensures.0 c.if-header.false (pre) in omega arith)
     (λ c. search rules)
     (λ c.
-    let a = c.before.before.before.before.before.before.args in
-    let word_at = c.before.before.before.before.word_at in
-    let if1 = c.before.before.before.if1 in
-    let pre = c.before.before.before.before.before.before.requires in
+    let a = c.args in
+    let word_at = c.word_at-header in
+    let if1 = c.if-header in
+    let pre = c.requires in
     let long = six a.bytes.now a.at word_at.result word_at.ensures.0 if1.false (pre) in omega arith)
     (λ c. search rules)
     (λ c.
-    let a = c.before.before.before.before.before.before.before.args in
-    let word_at = c.before.before.before.before.before.word_at in
-    let if1 = c.before.before.before.before.if1 in
-    let pre = c.before.before.before.before.before.before.before.requires in
+    let a = c.args in
+    let word_at = c.word_at-header in
+    let if1 = c.if-header in
+    let pre = c.requires in
     let long = six a.bytes.now a.at word_at.result word_at.ensures.0 if1.false (pre) in omega arith)
     (λ c.
-    let a = c.before.before.before.before.before.before.before.before.args in
-    let word_at = c.before.before.before.before.before.before.word_at in
-    let if1 = c.before.before.before.before.before.if1 in
-    (simp (maybe_power a.bytes.now a.at word_at.result word_at.ensures.0 word_at.ensures.1 if1.false, c.if2.true), omega arith))
+    let a = c.args in
+    let word_at = c.word_at-header in
+    let if1 = c.if-header in
+    (simp (maybe_power a.bytes.now a.at word_at.result word_at.ensures.0 word_at.ensures.1 if1.false, c.if-bytes-at.true), omega arith))
     (λ c.
-    let a = c.before.before.before.before.before.before.before.before.args in
-    let word_at = c.before.before.before.before.before.before.word_at in
-    let if1 = c.before.before.before.before.before.if1 in
-    (simp (maybe_power a.bytes.now a.at word_at.result word_at.ensures.0 word_at.ensures.1 if1.false, c.if2.false), omega arith)))
+    let a = c.args in
+    let word_at = c.word_at-header in
+    let if1 = c.if-header in
+    (simp (maybe_power a.bytes.now a.at word_at.result word_at.ensures.0 word_at.ensures.1 if1.false, c.if-bytes-at.false), omega arith)))

@@ -14,10 +14,10 @@ use native.Mathlib.Omega.{arith}
 use Rattle.order_frames.proofs.search_number.Statement.{statement}
 use Rattle.order_frames.proofs.search_number.Tie as tie
 
-abbrev invariant_loop : tie.invariant_loop
+abbrev invariant_loop : tie.invariant-loop-at
 invariant_loop pdu powers₀ at₀ powers at = (at ≤ length pdu) × (powers ≤ at) × (first_number (search_refusals pdu) ≡ outlook pdu powers (walk_from pdu at))
 
-abbrev decreases_loop : tie.decreases_loop
+abbrev decreases_loop : tie.decreases-loop-at
 decreases_loop pdu powers₀ at₀ powers at = length pdu - at
 
 pub search_number_spec : {M : Type 1} → statement M
@@ -26,51 +26,51 @@ search_number_spec =
     (tie.spec
     invariant_loop
     decreases_loop
-    (λ c. simp (lt-ltb _ _ c.if1.true))
-    (λ c. (omega arith, omega arith, looks c.before.before.args.pdu.now c.if1.false))
+    (λ c. simp (lt-ltb _ _ c.if-pdu-gt1500.true))
+    (λ c. (omega arith, omega arith, looks c.args.pdu.now c.if-pdu-gt1500.false))
     (λ c. omega arith)
     (λ c.
-    let k = c.before.before.loop in
-    let a = c.before.before.before.before.before.args in
-    sym (k.invariant.2 ∙ breaks a.pdu.now k.at k.powers (lone a.pdu.now k.at c.before.loop-test.true c.if2.true)))
+    let k = c.loop-at in
+    let a = c.args in
+    sym (k.invariant.2 ∙ breaks a.pdu.now k.at k.powers (lone a.pdu.now k.at c.loop-at-test.true c.if-pdu-at-lt2.true)))
     (λ c κs. omega arith)
     (λ c κs. search rules)
     (λ c.
-    let k = c.before.before.before.before.before.loop in
-    let a = c.before.before.before.before.before.before.before.before.args in
-    let word_at = c.before.before.word_at in
-    let loop-test = c.before.before.before.before.loop-test in
-    let if2 = c.before.before.before.if2 in
-    c.counted.ensures ∙ sym (k.invariant.2 ∙ ends a.pdu.now k.at k.powers (type_zero a.pdu.now k.at word_at.result word_at.ensures.0 word_at.ensures.1 loop-test.true if2.false c.before.if3.true)))
+    let k = c.loop-at in
+    let a = c.args in
+    let word_at = c.word_at-header in
+    let loop-test = c.loop-at-test in
+    let if2 = c.if-pdu-at-lt2 in
+    c.counted.ensures ∙ sym (k.invariant.2 ∙ ends a.pdu.now k.at k.powers (type_zero a.pdu.now k.at word_at.result word_at.ensures.0 word_at.ensures.1 loop-test.true if2.false c.if-header-eq0.true)))
     (λ c. omega arith)
     (λ c. omega arith)
     (λ c.
-    let k = c.before.before.before.before.before.loop in
-    let a = c.before.before.before.before.before.before.before.before.args in
-    let word_at = c.before.before.word_at in
-    let loop-test = c.before.before.before.before.loop-test in
-    let if2 = c.before.before.before.if2 in
-    sym (k.invariant.2 ∙ breaks a.pdu.now k.at k.powers (too_long a.pdu.now k.at word_at.result word_at.ensures.0 word_at.ensures.1 loop-test.true if2.false c.before.if3.false c.if4.true)))
+    let k = c.loop-at in
+    let a = c.args in
+    let word_at = c.word_at-header in
+    let loop-test = c.loop-at-test in
+    let if2 = c.if-pdu-at-lt2 in
+    sym (k.invariant.2 ∙ breaks a.pdu.now k.at k.powers (too_long a.pdu.now k.at word_at.result word_at.ensures.0 word_at.ensures.1 loop-test.true if2.false c.if-header-eq0.false c.if-pdu-at.true)))
     (λ c κs.
-    let a = c.before.before.before.before.before.before.before.before.args in
-    let k = c.before.before.before.before.before.loop in
-    omega (arith, size_is a.pdu.now k.at c.before.before.word_at.result c.before.before.word_at.ensures.0))
-    (λ c. omega (arith, c.power_at.ensures.1))
+    let a = c.args in
+    let k = c.loop-at in
+    omega (arith, size_is a.pdu.now k.at c.word_at-header.result c.word_at-header.ensures.0))
+    (λ c. omega (arith, c.power_at-powers.ensures.1))
     (λ c. omega arith)
     (λ c. omega arith)
     (λ c.
-    let k = c.before.before.before.before.before.before.loop in
-    let a = c.before.before.before.before.before.before.before.before.before.args in
-    let word_at = c.before.before.before.word_at in
-    let loop-test = c.before.before.before.before.before.loop-test in
-    let if2 = c.before.before.before.before.if2 in (
+    let k = c.loop-at in
+    let a = c.args in
+    let word_at = c.word_at-header in
+    let loop-test = c.loop-at-test in
+    let if2 = c.if-pdu-at-lt2 in (
       omega arith,
-      omega (arith, c.power_at.ensures.1),
-      k.invariant.2 ∙ goes_on a.pdu.now k.at k.powers (2 + word_at.result % 512) (whole_tlv a.pdu.now k.at word_at.result word_at.ensures.0 word_at.ensures.1 loop-test.true if2.false c.before.before.if3.false c.before.if4.false)
-          ∙ ap (λ (n : ℕ). outlook a.pdu.now (k.powers + n) (walk_from a.pdu.now (k.at + (2 + word_at.result % 512)))) (sym c.power_at.ensures.0),
+      omega (arith, c.power_at-powers.ensures.1),
+      k.invariant.2 ∙ goes_on a.pdu.now k.at k.powers (2 + word_at.result % 512) (whole_tlv a.pdu.now k.at word_at.result word_at.ensures.0 word_at.ensures.1 loop-test.true if2.false c.if-header-eq0.false c.if-pdu-at.false)
+          ∙ ap (λ (n : ℕ). outlook a.pdu.now (k.powers + n) (walk_from a.pdu.now (k.at + (2 + word_at.result % 512)))) (sym c.power_at-powers.ensures.0),
     ))
     (λ c κs. search rules)
     (λ c.
-    let k = c.before.before.loop in
-    let a = c.before.before.before.before.before.args in
-    c.counted2.ensures ∙ sym (k.invariant.2 ∙ ends a.pdu.now k.at k.powers (past a.pdu.now k.at c.before.loop-test.false))))
+    let k = c.loop-at in
+    let a = c.args in
+    c.counted-2.ensures ∙ sym (k.invariant.2 ∙ ends a.pdu.now k.at k.powers (past a.pdu.now k.at c.loop-at-test.false))))

@@ -20,5 +20,5 @@ word_at_spec =
     (λ c κs. search rules)
     (λ c. search rules)
     (λ c.
-    let wide = c.before.before.wide in
-    (ap₂ (λ (x y : ℕ). 256 * x + y) wide.ensures.0 c.wide2.ensures.0, omega (arith, wide.ensures.1, c.wide2.ensures.1))))
+    let wide = c.wide in
+    (ap₂ (λ (x y : ℕ). 256 * x + y) wide.ensures.0 c.wide-2.ensures.0, omega (arith, wide.ensures.1, c.wide-2.ensures.1))))

@@ -17,23 +17,23 @@ write_number_spec =
     (λ c. search rules)
     (λ c. search rules)
     (λ c.
-    let form = c.before.before.before.before.before.form in
-    simp (ap bad_codes form.given.1 ∙ codes_are form.given.0.0 ∙ c.if2.true))
+    let form = c.in-Long in
+    simp (ap bad_codes form.is ∙ codes_are form.added ∙ c.if-added.true))
     (λ c κs. search rules)
     (λ c κs. search rules)
     (λ c.
-    let form = c.before.before.before.before.before.before.before.before.form in
-    let if2 = c.before.before.before.if2 in
-    simp (ap bad_codes form.given.1 ∙ codes_are form.given.0.0 ∙ if2.false, ap bad_values form.given.1 ∙ ap₂ ◌||◌ (sym c.before.before.bad_value.ensures) (sym c.before.bad_value2.ensures) ∙ c.if3.true))
-    (λ c. simp (c.before.enum_told.given.1, lt-ltb _ _ c.if1.true))
-    (λ c. simp (c.before.enum_told.given.1, le-ltb _ _ c.if1.false))
+    let form = c.in-Long in
+    let if2 = c.if-added in
+    simp (ap bad_codes form.is ∙ codes_are form.added ∙ if2.false, ap bad_values form.is ∙ ap₂ ◌||◌ (sym c.bad_value.ensures) (sym c.bad_value-in-Long.ensures) ∙ c.if-bad_value.true))
+    (λ c. simp (c.in-Short.is, lt-ltb _ _ c.if-room-lt9.true))
+    (λ c. simp (c.in-Short.is, le-ltb _ _ c.if-room-lt9.false))
     (λ c.
-    let form = c.before.before.before.before.before.before.before.before.before.form in
-    let if2 = c.before.before.before.before.if2 in
-    let bad-value = c.before.before.before.bad_value in
-    simp (ap bad_codes form.given.1 ∙ codes_are form.given.0.0 ∙ if2.false, ap bad_values form.given.1 ∙ ap₂ ◌||◌ (sym bad-value.ensures) (sym c.before.before.bad_value2.ensures) ∙ c.before.if3.false) (simp (form.given.1, lt-ltb _ _ c.if4.true)))
+    let form = c.in-Long in
+    let if2 = c.if-added in
+    let bad-value = c.bad_value in
+    simp (ap bad_codes form.is ∙ codes_are form.added ∙ if2.false, ap bad_values form.is ∙ ap₂ ◌||◌ (sym bad-value.ensures) (sym c.bad_value-in-Long.ensures) ∙ c.if-bad_value.false) (simp (form.is, lt-ltb _ _ c.if-room-lt14.true)))
     (λ c.
-    let form = c.before.before.before.before.before.before.before.before.before.form in
-    let if2 = c.before.before.before.before.if2 in
-    let bad-value = c.before.before.before.bad_value in
-    simp (ap bad_codes form.given.1 ∙ codes_are form.given.0.0 ∙ if2.false, ap bad_values form.given.1 ∙ ap₂ ◌||◌ (sym bad-value.ensures) (sym c.before.before.bad_value2.ensures) ∙ c.before.if3.false) (simp (form.given.1, le-ltb _ _ c.if4.false))))
+    let form = c.in-Long in
+    let if2 = c.if-added in
+    let bad-value = c.bad_value in
+    simp (ap bad_codes form.is ∙ codes_are form.added ∙ if2.false, ap bad_values form.is ∙ ap₂ ◌||◌ (sym bad-value.ensures) (sym c.bad_value-in-Long.ensures) ∙ c.if-bad_value.false) (simp (form.is, le-ltb _ _ c.if-room-lt14.false))))

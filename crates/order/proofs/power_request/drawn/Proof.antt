@@ -8,5 +8,5 @@ pub drawn_spec : {M : Type 1} → statement M
 drawn_spec =
     tie.close
     (tie.spec
-    (λ c. (simp (closed_code, c.if1.true), search rules))
-    (λ c. (simp (closed_code, c.if1.false), search rules)))
+    (λ c. (simp (closed_code, c.if-state.true), search rules))
+    (λ c. (simp (closed_code, c.if-state.false), search rules)))

@@ -10,7 +10,7 @@ unfolding level_of budget_of
 level_spec =
     tie.close
     (tie.spec
-    (λ c. simp (le-leb _ _ c.if1.true))
-    (λ c. simp (lt-leb _ _ c.before.if1.false, le-leb _ _ c.if2.true))
-    (λ c. simp (lt-leb _ _ c.before.before.if1.false, lt-leb _ _ c.before.if2.false, le-leb _ _ c.if3.true))
-    (λ c. simp (lt-leb _ _ c.before.before.if1.false, lt-leb _ _ c.before.if2.false, lt-leb _ _ c.if3.false)))
+    (λ c. simp (le-leb _ _ c.if-value-le38.true))
+    (λ c. simp (lt-leb _ _ c.if-value-le38.false, le-leb _ _ c.if-value-le64.true))
+    (λ c. simp (lt-leb _ _ c.if-value-le38.false, lt-leb _ _ c.if-value-le64.false, le-leb _ _ c.if-value-le129.true))
+    (λ c. simp (lt-leb _ _ c.if-value-le38.false, lt-leb _ _ c.if-value-le64.false, lt-leb _ _ c.if-value-le129.false)))

@@ -7,6 +7,6 @@ pub start_number_spec : {M : Type 1} → statement M
 start_number_spec =
     tie.close
     (tie.spec
-    (λ c. simp (ne_eqb _ _ c.if1.true))
-    (λ c. simp (eq-eqb _ _ c.before.if1.false, c.if2.true))
-    (λ c. simp (eq-eqb _ _ c.before.if1.false, c.if2.false)))
+    (λ c. simp (ne_eqb _ _ c.if-cells-ne728.true))
+    (λ c. simp (eq-eqb _ _ c.if-cells-ne728.false, c.if-ports.true))
+    (λ c. simp (eq-eqb _ _ c.if-cells-ne728.false, c.if-ports.false)))

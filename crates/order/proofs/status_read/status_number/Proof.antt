@@ -21,12 +21,12 @@ due s = first_number (status_list s.args.cells.now s.args.port)
 abbrev left : ℕ → tie.Start → ℕ
 left n s = first_number (drop n (status_refusals (table_of s.args.cells.now) s.args.port))
 
-fine : (c : tie.Else1) → ill_cells c.before.before.before.args.cells.now ≡ false
-fine c = sym c.before.ill_made_lem.ensures ∙ c.if1.false
+fine : (c : tie.Else-ill_made) → ill_cells c.args.cells.now ≡ false
+fine c = sym c.ill_made.ensures ∙ c.if-ill_made.false
 
 -- what was asked so far does not hold
-past1 : (c : tie.Else1) → due c.before.before.before ≡ left 1 c.before.before.before
-past1 c = let s = c.before.before.before in well_first s.args.cells.now (drop 1 (status_refusals (table_of s.args.cells.now) s.args.port)) (fine c)
+past1 : (c : tie.Else-ill_made) → due c.before.before.before ≡ left 1 c.before.before.before
+past1 c = let s = c in well_first s.args.cells.now (drop 1 (status_refusals (table_of s.args.cells.now) s.args.port)) (fine c)
 
 pub status_number_spec : {M : Type 1} → statement M
 unfolding table_of
@@ -34,8 +34,8 @@ status_number_spec =
     tie.close
     (tie.spec
     (λ c κs. search rules)
-    (λ c. ill_first c.before.before.before.args.cells.now (drop 1 (status_refusals (table_of c.before.before.before.args.cells.now) c.before.before.before.args.port)) (sym c.before.ill_made_lem.ensures ∙ c.if1.true))
+    (λ c. ill_first c.args.cells.now (drop 1 (status_refusals (table_of c.args.cells.now) c.args.port)) (sym c.ill_made.ensures ∙ c.if-ill_made.true))
     (λ c. let w = well_cells_of _ (fine c.before) in omega arith)
-    (λ c. omega (arith, c.shared-slice-known2.given 0))
-    (λ c. sym (past1 c.before.before ∙ simp (le-leb _ _ c.if2.true)))
-    (λ c. sym (past1 c.before.before ∙ simp (lt-leb _ _ c.if2.false))))
+    (λ c. omega (arith, c.shared_slice_known-2-1.given 0))
+    (λ c. sym (past1 c.before.before ∙ simp (le-leb _ _ c.if-cells-port.true)))
+    (λ c. sym (past1 c.before.before ∙ simp (lt-leb _ _ c.if-cells-port.false))))

@@ -18,10 +18,10 @@ use Rattle.order.proofs.ticking.bad_flags.Tie as tie
 abbrev bad_at : List ℕ → ℕ → Bool
 bad_at block p = reserved_flags (sample_at block (14 * p)).flags
 
-abbrev invariant_loop : tie.invariant_loop
+abbrev invariant_loop : tie.invariant-loop-p
 invariant_loop block ports bad₀ p₀ bad p = (p ≤ ports) × (bad ≡ some_below p (bad_at block))
 
-abbrev decreases_loop : tie.decreases_loop
+abbrev decreases_loop : tie.decreases-loop-p
 decreases_loop block ports bad₀ p₀ bad p = ports - p
 
 pub bad_flags_spec : {M : Type 1} → statement M
@@ -40,14 +40,14 @@ bad_flags_spec =
     (λ c. omega arith)
     (λ c. omega arith)
     (λ c κs. search rules)
-    (λ c. omega (arith, c.before.before.wide.ensures.1, c.wide2.ensures.1))
+    (λ c. omega (arith, c.wide.ensures.1, c.wide-in-loop-p.ensures.1))
     (λ c. omega arith)
     (λ c. omega arith)
     (λ c.
-    let k = c.before.before.before.before.before.loop in
-    let a = c.before.before.before.before.before.before.before.args in
+    let k = c.loop-p in
+    let a = c.args in
     let b = a.block.now in
-    (omega arith, ap₂ ◌||◌ k.invariant.1 (ap₂ (λ (x y : ℕ). leb 64 (256 * x + y)) c.before.before.wide.ensures.0 c.wide2.ensures.0) ∙ sym (some_next k.p (bad_at b))))
+    (omega arith, ap₂ ◌||◌ k.invariant.1 (ap₂ (λ (x y : ℕ). leb 64 (256 * x + y)) c.wide.ensures.0 c.wide-in-loop-p.ensures.0) ∙ sym (some_next k.p (bad_at b))))
     (λ c.
-    let a = c.before.before.before.args in
-    c.before.loop.invariant.1 ∙ ap (λ (n : ℕ). some_below n (bad_at a.block.now)) (le_antisymm c.before.loop.invariant.0 (omega arith))))
+    let a = c.args in
+    c.loop-p.invariant.1 ∙ ap (λ (n : ℕ). some_below n (bad_at a.block.now)) (le_antisymm c.loop-p.invariant.0 (omega arith))))
