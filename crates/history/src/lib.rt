@@ -22,14 +22,14 @@ use marks::NOTHING;
 use marks::bytes::word_at;
 
 // The table that calls reached, and each port's mark.
-#[derive(Drop)]
+#[derive(Clone, Copy)]
 pub struct Reached {
     pub cells: [u16; 728],
     pub shown: [u8; 48],
 }
 
 // What `ipaqsuni_tick` answers: its number, 0 where the tick is accepted, and what then stands in the two masks.
-#[derive(Drop)]
+#[derive(Clone, Copy)]
 pub struct TickAnswer {
     pub number: u32,
     pub a: u64,
@@ -115,7 +115,7 @@ pub fn run(history: &[u8], ports: u32) -> Reached
 }
 
 // What a tick leaves and answers.
-#[derive(Drop)]
+#[derive(Clone, Copy)]
 pub struct Tried {
     pub cells: [u16; 728],
     pub shown: [u8; 48],

@@ -13,18 +13,18 @@ second_tick_spec =
     (tie.spec
     (λ c. search rules)
     (λ c κs. search rules)
-    (λ c. simp (ne_eqb _ _ (λ e. c.if1.true (c.before.tick_number_lem.ensures ∙ e))))
+    (λ c. simp (ne_eqb _ _ (λ e. c.if-tick_number-ne0.true (c.tick_number.ensures ∙ e))))
     (λ c. search rules)
     (λ c κs. search rules)
     (λ c. search rules)
     (λ c. search rules)
     (λ c κs. search rules)
     (λ c.
-    let e = c.before.before.before.before.before.before.before in
-    simp (eq-eqb _ _ (sym e.before.tick_number_lem.ensures ∙ e.if1.false)))
+    let e = c in
+    simp (eq-eqb _ _ (sym e.tick_number.ensures ∙ e.if-tick_number-ne0.false)))
     (λ c.
-    let t = c.before.before.before.before.before in
-    let e = t.before.before in
-    absurd (not_both_lem c.before.tick_right.result
-    (c.before.tick_right.ensures ∙ right_in _ _ _ _ _ t.tick.ensures.0 t.tick.ensures.1 (sym e.before.tick_number_lem.ensures ∙ e.if1.false))
-    c.if2.false)))
+    let t = c in
+    let e = t in
+    absurd (not_both_lem c.tick_right.result
+    (c.tick_right.ensures ∙ right_in _ _ _ _ _ t.tick-answer.ensures.0 t.tick-answer.ensures.1 (sym e.tick_number.ensures ∙ e.if-tick_number-ne0.false))
+    c.if-tick_right.false)))

@@ -15,9 +15,9 @@ tick_right_spec =
     tie.close
     (tie.spec
     (λ c. omega arith)
-    (λ c. omega (arith, c.shared-slice-known3.given 1))
+    (λ c. omega (arith, c.shared_slice_known-3-1.given 1))
     (λ c κs. search rules)
     (λ c κs. search rules)
     (λ c.
-    let a = c.before.before.before.before.before.args in
-    ap₂ (λ (x y : Bool). (x && eqb (get_or a.after.now 1 0) a.figure) && y) c.before.answer_right.ensures c.rest_kept.ensures))
+    let a = c.args in
+    ap₂ (λ (x y : Bool). (x && eqb (get_or a.after.now 1 0) a.figure) && y) c.answer_right.ensures c.rest_kept.ensures))

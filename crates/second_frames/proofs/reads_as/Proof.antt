@@ -14,5 +14,5 @@ reads_as_spec =
     (λ c. search rules)
     (λ c κs. search rules)
     (λ c. search rules)
-    (λ c. simp (sym c.before.before.before.before.read.ensures ∙ c.before.before.found.given.1) c.same_fields.ensures)
-    (λ c. simp (sym c.before.before.read.ensures ∙ c.enum_told.given.1)))
+    (λ c. simp (sym c.read.ensures ∙ c.in-Is.is) c.same_fields.ensures)
+    (λ c. simp (sym c.read.ensures ∙ c.in-Refused.is)))

@@ -15,8 +15,8 @@ unfolding rewritten_right
 rewritten_right_spec =
     tie.close
     (tie.spec
-    (λ c. simp (lt-ltb _ _ c.if1.true))
-    (λ c. simp (le-ltb _ _ c.before.if1.false, lt-ltb _ _ c.if2.true))
+    (λ c. simp (lt-ltb _ _ c.if-room-size.true))
+    (λ c. simp (le-ltb _ _ c.if-room-size.false, lt-ltb _ _ c.if-before-size.true))
     (λ c. sym (length-take-le _ _ (omega arith)))
     (λ c κs. search rules)
     (λ c. search rules)
@@ -27,7 +27,7 @@ rewritten_right_spec =
     (λ c. search rules)
     (λ c κs. search rules)
     (λ c.
-    let if1 = c.before.before.before.before.before.before.if1 in
-    let if2 = c.before.before.before.before.before.if2 in
-    let a = c.before.before.before.before.before.before.before.before.before.before.args in
-    simp (le-ltb _ _ if1.false, le-ltb _ _ if2.false) (ap₂ ◌&&◌ c.before.before.before.same_bytes.ensures (c.same_bytes2.ensures ∙ from_there_on a.size a.before.now a.room.now))))
+    let if1 = c.if-room-size in
+    let if2 = c.if-before-size in
+    let a = c.args in
+    simp (le-ltb _ _ if1.false, le-ltb _ _ if2.false) (ap₂ ◌&&◌ c.same_bytes.ensures (c.same_bytes-2.ensures ∙ from_there_on a.size a.before.now a.room.now))))

@@ -16,48 +16,48 @@ second_read_spec =
     tie.close
     (tie.spec
     (λ c κs. search rules)
-    (λ c. simp (ne_eqb _ _ (λ e. c.if1.true (c.before.read_number.ensures ∙ e))))
+    (λ c. simp (ne_eqb _ _ (λ e. c.if-read_number-ne0.true (c.read_number.ensures ∙ e))))
     (λ c κs. search rules)
     (λ c.
-    let z = sym c.before.before.before.read_number.ensures ∙ c.before.before.if1.false in
-    simp (eq-eqb _ _ z, sym c.before.zero_sent.ensures ∙ not-true c.before.zero_sent.result c.if2.true))
-    (λ c κs. search rules)
-    (λ c. search rules)
-    (λ c. search rules)
-    (λ c.
-    let due = c.before.before.before.before.before in
-    let a = due.before.before.before.args in
-    let r = read_refused a.bytes.now _ (sym c.before.before.read.ensures ∙ c.enum_told.given.1) in
-    absurd (omega (arith, r.0, r.1, due.before.read_number.ensures, due.if1.false)))
-    (λ c. search rules)
+    let z = sym c.read_number.ensures ∙ c.if-read_number-ne0.false in
+    simp (eq-eqb _ _ z, sym c.zero_sent.ensures ∙ c.if-not-zero_sent.true))
     (λ c κs. search rules)
     (λ c. search rules)
     (λ c. search rules)
     (λ c.
-    let write = c.before.before.before.write in
-    let fields = c.before.before.before.before.before.before.fields in
-    let read = c.before.before.before.before.before.before.before.before.read in
-    let zero = c.before.before.before.before.before.before.before.before.before in
-    let known = zero.before.before.before.before.shared-slice-known in
-    let a = zero.before.before.before.before.before.args in
-    let sent = sym zero.before.zero_sent.ensures ∙ not-false zero.before.zero_sent.result zero.if2.false in
-    absurd (read_written a.bytes.now (λ k. omega (arith, known.given k)) sent _ (sym read.ensures ∙ fields.given.1) _ (omega arith) _ (sym write.ensures.0 ∙ c.enum-told2.given.1)))
+    let due = c in
+    let a = due.args in
+    let r = read_refused a.bytes.now _ (sym c.read.ensures ∙ c.in_default.is) in
+    absurd (omega (arith, r.0, r.1, due.read_number.ensures, due.if-read_number-ne0.false)))
+    (λ c. search rules)
+    (λ c κs. search rules)
+    (λ c. search rules)
+    (λ c. search rules)
+    (λ c.
+    let write = c.write in
+    let fields = c.in-Is in
+    let read = c.read in
+    let zero = c in
+    let known = zero.shared_slice_known-1 in
+    let a = zero.args in
+    let sent = sym zero.zero_sent.ensures ∙ zero.if-not-zero_sent.false in
+    absurd (read_written a.bytes.now (λ k. omega (arith, known.given k)) sent _ (sym read.ensures ∙ fields.is) _ (omega arith) _ (sym write.ensures.0 ∙ c.in_default-write.is)))
     (λ c. search rules)
     (λ c. search rules)
     (λ c κs. search rules)
     (λ c.
-    let zero = c.before.before.before.before.before.before.before.before.before.before.before.before.before.before in
-    let z = sym zero.before.before.before.read_number.ensures ∙ zero.before.before.if1.false in
-    simp (eq-eqb _ _ z, sym zero.before.zero_sent.ensures ∙ not-false zero.before.zero_sent.result zero.if2.false))
+    let zero = c in
+    let z = sym zero.read_number.ensures ∙ zero.if-read_number-ne0.false in
+    simp (eq-eqb _ _ z, sym zero.zero_sent.ensures ∙ zero.if-not-zero_sent.false))
     (λ c.
-    let size = c.before.before.before.before.before.size in
-    let write = c.before.before.before.before.before.before.before.before.write in
-    let fields = c.before.before.before.before.before.before.before.before.before.before.before.fields in
-    let read = c.before.before.before.before.before.before.before.before.before.before.before.before.before.read in
-    let zero = c.before.before.before.before.before.before.before.before.before.before.before.before.before.before in
-    let known = zero.before.before.before.before.shared-slice-known in
-    let a = zero.before.before.before.before.before.args in
-    let sent = sym zero.before.zero_sent.ensures ∙ not-false zero.before.zero_sent.result zero.if2.false in
-    absurd (not_both_lem c.before.rewritten_right.result
-    (c.before.rewritten_right.ensures ∙ read_right a.bytes.now (λ k. omega (arith, known.given k)) sent _ (sym read.ensures ∙ fields.given.1) _ (omega arith) _ _ write.ensures.1 (sym write.ensures.0 ∙ size.given.1))
-    c.if3.false)))
+    let size = c.in-Is-write in
+    let write = c.write in
+    let fields = c.in-Is in
+    let read = c.read in
+    let zero = c in
+    let known = zero.shared_slice_known-1 in
+    let a = zero.args in
+    let sent = sym zero.zero_sent.ensures ∙ zero.if-not-zero_sent.false in
+    absurd (not_both_lem c.rewritten_right.result
+    (c.rewritten_right.ensures ∙ read_right a.bytes.now (λ k. omega (arith, known.given k)) sent _ (sym read.ensures ∙ fields.is) _ (omega arith) _ _ write.ensures.1 (sym write.ensures.0 ∙ size.is))
+    c.if-rewritten_right.false)))

@@ -18,39 +18,39 @@ second_write_spec =
     (tie.spec
     (λ c κs. search rules)
     (λ c. search rules)
-    (λ c. let s = sym c.before.same_bytes.ensures ∙ not-true c.before.same_bytes.result c.if1.true in (simp s, simp s))
+    (λ c. let s = sym c.same_bytes.ensures ∙ c.if-not-same_bytes.true in (simp s, simp s))
     (λ c κs. search rules)
     (λ c. search rules)
     (λ c.
-    let same_bytes = c.before.before.before.before.same_bytes in
-    let s = sym same_bytes.ensures ∙ not-false same_bytes.result c.before.before.before.if1.false in
-    let n = ne_eqb _ _ (λ e. c.if2.true (c.before.write_number.ensures ∙ e)) in
+    let same_bytes = c.same_bytes in
+    let s = sym same_bytes.ensures ∙ c.if-not-same_bytes.false in
+    let n = ne_eqb _ _ (λ e. c.if-write_number-ne0.true (c.write_number.ensures ∙ e)) in
     (simp (s, n), simp (s, n)))
     (λ c κs. search rules)
     (λ c. search rules)
     (λ c. search rules)
     (λ c. search rules)
     (λ c.
-    let write = c.before.before.before.before.write in
-    let due = c.before.before.before.before.before.before in
-    let a = due.before.before.before.before.before.before.before.before.args in
-    let r = write_refused a.fields a.room.now _ (sym write.ensures.0 ∙ c.enum_told.given.1) in
-    absurd (omega (arith, r.some, r.is_first, due.before.write_number.ensures, due.if2.false)))
+    let write = c.write in
+    let due = c in
+    let a = due.args in
+    let r = write_refused a.fields a.room.now _ (sym write.ensures.0 ∙ c.in_default.is) in
+    absurd (omega (arith, r.some, r.is_first, due.write_number.ensures, due.if-write_number-ne0.false)))
     (λ c κs. search rules)
     (λ c. search rules)
     (λ c.
-    let write = c.before.before.before.before.before.before.before.before.write in
-    let due = c.before.before.before.before.before.before.before.before.before.before in
-    let lent = due.before.before.before in
-    let s = sym lent.before.same_bytes.ensures ∙ not-false lent.before.same_bytes.result lent.if1.false in
-    let z = sym due.before.write_number.ensures ∙ due.if2.false in
+    let write = c.write in
+    let due = c in
+    let lent = due in
+    let s = sym lent.same_bytes.ensures ∙ lent.if-not-same_bytes.false in
+    let z = sym due.write_number.ensures ∙ due.if-write_number-ne0.false in
     (simp (s, eq-eqb _ _ z), simp (s, eq-eqb _ _ z) write.ensures.1))
     (λ c. search rules)
     (λ c.
-    let write = c.before.before.before.before.before.before.before.before.write in
-    let lent = c.before.before.before.before.before.before.before.before.before.before.before.before.before in
-    let a = lent.before.before.before.before.before.args in
-    let s = sym lent.before.same_bytes.ensures ∙ not-false lent.before.same_bytes.result lent.if1.false in
-    absurd (not_both_lem c.before.written_right.result
-    (c.before.written_right.ensures ∙ write_right a.fields a.room.now _ _ _ (alike_is _ _ s) write.ensures.1 (sym write.ensures.0 ∙ c.before.before.before.before.size.given.1))
-    c.if3.false)))
+    let write = c.write in
+    let lent = c in
+    let a = lent.args in
+    let s = sym lent.same_bytes.ensures ∙ lent.if-not-same_bytes.false in
+    absurd (not_both_lem c.written_right.result
+    (c.written_right.ensures ∙ write_right a.fields a.room.now _ _ _ (alike_is _ _ s) write.ensures.1 (sym write.ensures.0 ∙ c.in-Is.is))
+    c.if-written_right.false)))

@@ -16,9 +16,9 @@ written_right_spec =
     tie.close
     (tie.spec
     (λ c κs. search rules)
-    (λ c. simp (ne_eqb _ _ (λ e. c.if1.true (e ∙ sym c.before.tlv_size.ensures))))
-    (λ c. simp (eq-eqb _ _ (c.before.if1.false ∙ c.before.before.tlv_size.ensures), lt-ltb _ _ c.if2.true))
-    (λ c. simp (eq-eqb _ _ (c.before.before.if1.false ∙ c.before.before.before.tlv_size.ensures), le-ltb _ _ c.before.if2.false, lt-ltb _ _ c.if3.true))
+    (λ c. simp (ne_eqb _ _ (λ e. c.if-size-tlv_size.true (e ∙ sym c.tlv_size.ensures))))
+    (λ c. simp (eq-eqb _ _ (c.if-size-tlv_size.false ∙ c.tlv_size.ensures), lt-ltb _ _ c.if-room-size.true))
+    (λ c. simp (eq-eqb _ _ (c.if-size-tlv_size.false ∙ c.tlv_size.ensures), le-ltb _ _ c.if-room-size.false, lt-ltb _ _ c.if-before-size.true))
     (λ c. sym (length-take-le _ _ (omega arith)))
     (λ c κs. search rules)
     (λ c. search rules)
@@ -29,10 +29,10 @@ written_right_spec =
     (λ c. search rules)
     (λ c κs. search rules)
     (λ c.
-    let reads_as = c.before.before.before.reads_as in
-    let if3 = c.before.before.before.before.before.if3 in
-    let if2 = c.before.before.before.before.before.before.if2 in
-    let if1 = c.before.before.before.before.before.before.before.if1 in
-    let tlv-size = c.before.before.before.before.before.before.before.before.tlv_size in
-    let a = c.before.before.before.before.before.before.before.before.before.before.before.args in
+    let reads_as = c.reads_as in
+    let if3 = c.if-before-size in
+    let if2 = c.if-room-size in
+    let if1 = c.if-size-tlv_size in
+    let tlv-size = c.tlv_size in
+    let a = c.args in
     simp (eq-eqb _ _ (if1.false ∙ tlv-size.ensures), le-ltb _ _ if2.false, le-ltb _ _ if3.false) (ap₂ ◌&&◌ reads_as.ensures (c.same_bytes.ensures ∙ from_there_on a.size a.before.now a.room.now))))

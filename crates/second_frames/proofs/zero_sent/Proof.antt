@@ -11,6 +11,6 @@ unfolding zero_sent field
 zero_sent_spec =
     tie.close
     (tie.spec
-    (λ c. simp (lt-ltb _ _ c.if1.true))
+    (λ c. simp (lt-ltb _ _ c.if-bytes-lt10.true))
     (λ c. search rules)
-    (λ c. simp (le-ltb _ _ c.before.if1.false)))
+    (λ c. simp (le-ltb _ _ c.if-bytes-lt10.false)))

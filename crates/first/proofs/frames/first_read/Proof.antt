@@ -16,13 +16,13 @@ first_read_spec =
     (λ c. search rules)
     (λ c κs. search rules)
     (λ c.
-    let read_number = c.before.before.before.before.read_number in
-    let a = c.before.before.before.before.before.before.args in
-    let read = c.before.before.before.read in
-    held_answered _ _ c.answered.ensures (read_number.ensures ∙ read_answered a.bytes.now _ (sym read.ensures ∙ c.before.enum_told.given.1)))
+    let read_number = c.read_number-read_due in
+    let a = c.args in
+    let read = c.read in
+    held_answered _ _ c.answered.ensures (read_number.ensures ∙ read_answered a.bytes.now _ (sym read.ensures ∙ c.in-Is.is)))
     (λ c.
-    let a = c.before.before.before.before.before.before.before.args in
-    let read = c.before.before.before.before.read in
-    let read_number = c.before.before.before.before.before.read_number in
-    let r = read_refused a.bytes.now _ (sym read.ensures ∙ c.before.before.number.given.1) in
+    let a = c.args in
+    let read = c.read in
+    let read_number = c.read_number-read_due in
+    let r = read_refused a.bytes.now _ (sym read.ensures ∙ c.in-Refused.is) in
     held_refused _ _ _ c.refused.ensures (r.0 ∙ sym read_number.ensures) r.1))

@@ -16,13 +16,13 @@ first_search_spec =
     (λ c. search rules)
     (λ c κs. search rules)
     (λ c.
-    let search-number = c.before.before.before.before.search_number in
-    let a = c.before.before.before.before.before.before.args in
-    let search = c.before.before.before.search in
-    held_answered _ _ c.answered.ensures (search-number.ensures ∙ search_answered a.pdu.now _ _ (sym search.ensures ∙ c.before.enum_told.given.1)))
+    let search-number = c.search_number-search_due in
+    let a = c.args in
+    let search = c.search in
+    held_answered _ _ c.answered.ensures (search-number.ensures ∙ search_answered a.pdu.now _ _ (sym search.ensures ∙ c.in-Is.is)))
     (λ c.
-    let a = c.before.before.before.before.before.before.before.args in
-    let search = c.before.before.before.before.search in
-    let search-number = c.before.before.before.before.before.search_number in
-    let r = search_refused a.pdu.now _ (sym search.ensures ∙ c.before.before.number.given.1) in
+    let a = c.args in
+    let search = c.search in
+    let search-number = c.search_number-search_due in
+    let r = search_refused a.pdu.now _ (sym search.ensures ∙ c.in-Refused.is) in
     held_refused _ _ _ c.refused.ensures (r.0 ∙ sym search-number.ensures) r.1))

@@ -14,7 +14,7 @@ first_write_spec =
     (tie.spec
     (λ c κs. search rules)
     (λ c. search rules)
-    (λ c. not_asked _ _ _ (sym c.before.same_bytes.ensures ∙ not-true c.before.same_bytes.result c.if1.true))
+    (λ c. not_asked _ _ _ (sym c.same_bytes.ensures ∙ c.if-not-same_bytes.true))
     (λ c κs. search rules)
     (λ c κs. search rules)
     (λ c. search rules)
@@ -24,21 +24,21 @@ first_write_spec =
     (λ c κs. search rules)
     (λ c. search rules)
     (λ c.
-    let same_bytes = c.before.before.before.before.before.before.before.before.before.before.same_bytes in
-    let if1 = c.before.before.before.before.before.before.before.before.before.if1 in
-    let write = c.before.before.before.before.before.write in
-    let write_number = c.before.before.before.before.before.before.before.write_number in
-    let a = c.before.before.before.before.before.before.before.before.before.before.before.before.before.before.args in
-    let s = sym same_bytes.ensures ∙ not-false same_bytes.result if1.false in
-    held_answer _ s _ _ _ _ _ write.ensures.1 c.answered.ensures (write_number.ensures ∙ write_answered a.fields a.room.now _ (sym write.ensures.0 ∙ c.before.enum_told.given.1)))
+    let same_bytes = c.same_bytes in
+    let if1 = c.if-not-same_bytes in
+    let write = c.write in
+    let write_number = c.write_number-write_due in
+    let a = c.args in
+    let s = sym same_bytes.ensures ∙ if1.false in
+    held_answer _ s _ _ _ _ _ write.ensures.1 c.answered.ensures (write_number.ensures ∙ write_answered a.fields a.room.now _ (sym write.ensures.0 ∙ c.in-Is.is)))
     (λ c. search rules)
     (λ c.
-    let same_bytes = c.before.before.before.before.before.before.before.before.before.before.before.before.before.same_bytes in
-    let if1 = c.before.before.before.before.before.before.before.before.before.before.before.before.if1 in
-    let a = c.before.before.before.before.before.before.before.before.before.before.before.before.before.before.before.before.before.args in
-    let write = c.before.before.before.before.before.before.before.before.write in
-    let number = c.before.before.before.before.number in
-    let write_number = c.before.before.before.before.before.before.before.before.before.before.write_number in
-    let s = sym same_bytes.ensures ∙ not-false same_bytes.result if1.false in
+    let same_bytes = c.same_bytes in
+    let if1 = c.if-not-same_bytes in
+    let a = c.args in
+    let write = c.write in
+    let number = c.number-1 in
+    let write_number = c.write_number-write_due in
+    let s = sym same_bytes.ensures ∙ if1.false in
     let r = write_refused a.fields a.room.now _ (sym write.ensures.0 ∙ number.given.1) in
-    held_refusal _ s _ _ _ _ _ write.ensures.1 _ _ _ c.refused.ensures write_number.ensures r (λ e. c.before.same_bytes2.ensures ∙ ap (alike a.before.now) (write.ensures.1 ∙ e) ∙ s)))
+    held_refusal _ s _ _ _ _ _ write.ensures.1 _ _ _ c.refused.ensures write_number.ensures r (λ e. c.same_bytes-in-Refused.ensures ∙ ap (alike a.before.now) (write.ensures.1 ∙ e) ∙ s)))

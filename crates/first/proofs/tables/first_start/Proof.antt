@@ -13,7 +13,7 @@ first_start_spec =
     (tie.spec
     (λ c κs. search rules)
     (λ c. search rules)
-    (λ c. not_asked _ _ _ (sym c.before.same.ensures ∙ not-true c.before.same.result c.if1.true))
+    (λ c. not_asked _ _ _ (sym c.same.ensures ∙ c.if-not-same.true))
     (λ c κs. search rules)
     (λ c κs. search rules)
     (λ c. search rules)
@@ -23,21 +23,21 @@ first_start_spec =
     (λ c κs. search rules)
     (λ c. search rules)
     (λ c.
-    let same = c.before.before.before.before.before.before.before.before.before.before.same in
-    let if1 = c.before.before.before.before.before.before.before.before.before.if1 in
-    let cold_start = c.before.before.before.before.before.cold_start in
-    let start-number = c.before.before.before.before.before.before.before.start_number in
-    let a = c.before.before.before.before.before.before.before.before.before.before.before.before.before.before.args in
-    let s = sym same.ensures ∙ not-false same.result if1.false in
-    held_answer _ s _ _ _ _ _ cold_start.ensures.1 c.answered.ensures (start-number.ensures ∙ start_answered a.cells.now a.ports (sym cold_start.ensures.0 ∙ c.before.enum_told.given.1)))
+    let same = c.same in
+    let if1 = c.if-not-same in
+    let cold_start = c.cold_start in
+    let start-number = c.start_number-start_due in
+    let a = c.args in
+    let s = sym same.ensures ∙ if1.false in
+    held_answer _ s _ _ _ _ _ cold_start.ensures.1 c.answered.ensures (start-number.ensures ∙ start_answered a.cells.now a.ports (sym cold_start.ensures.0 ∙ c.in-Done.is)))
     (λ c. search rules)
     (λ c.
-    let same = c.before.before.before.before.before.before.before.before.before.before.before.before.before.same in
-    let if1 = c.before.before.before.before.before.before.before.before.before.before.before.before.if1 in
-    let a = c.before.before.before.before.before.before.before.before.before.before.before.before.before.before.before.before.before.args in
-    let cold_start = c.before.before.before.before.before.before.before.before.cold_start in
-    let number = c.before.before.before.before.number in
-    let start-number = c.before.before.before.before.before.before.before.before.before.before.start_number in
-    let s = sym same.ensures ∙ not-false same.result if1.false in
+    let same = c.same in
+    let if1 = c.if-not-same in
+    let a = c.args in
+    let cold_start = c.cold_start in
+    let number = c.number-1 in
+    let start-number = c.start_number-start_due in
+    let s = sym same.ensures ∙ if1.false in
     let r = start_refused a.cells.now a.ports _ (sym cold_start.ensures.0 ∙ number.given.1) in
-    held_refusal _ s _ _ _ _ _ cold_start.ensures.1 _ _ _ c.refused.ensures start-number.ensures r (λ e. c.before.same2.ensures ∙ ap (alike a.before.now) (cold_start.ensures.1 ∙ e) ∙ s)))
+    held_refusal _ s _ _ _ _ _ cold_start.ensures.1 _ _ _ c.refused.ensures start-number.ensures r (λ e. c.same-in-Refused.ensures ∙ ap (alike a.before.now) (cold_start.ensures.1 ∙ e) ∙ s)))

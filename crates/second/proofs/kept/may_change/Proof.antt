@@ -9,5 +9,5 @@ unfolding may_change
 may_change_spec =
     tie.close
     (tie.spec
-    (λ c. simp (lt-ltb _ _ c.if1.true))
-    (λ c. simp (le-ltb _ _ c.if1.false)))
+    (λ c. simp (lt-ltb _ _ c.if-k-lt8.true))
+    (λ c. simp (le-ltb _ _ c.if-k-lt8.false)))

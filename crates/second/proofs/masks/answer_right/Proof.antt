@@ -19,8 +19,8 @@ answer_right_spec =
     (λ c. search rules)
     (λ c. search rules)
     (λ c.
-    let b = c.before.before in
-    let x = b.before.before in
-    tests_right _ _ _ _ _ _ _ _ _ _ x.apart.ensures b.before.bits_right.ensures b.bits_right2.ensures c.before.ones_in_lem.ensures.0 c.ones_in2.ensures.0
-    x.before.before.answer.given.1)
+    let b = c in
+    let x = b in
+    tests_right _ _ _ _ _ _ _ _ _ _ x.apart.ensures b.bits_right.ensures b.bits_right-in-Ports.ensures c.ones_in.ensures.0 c.ones_in-in-Ports.ensures.0
+    x.in-Ports.is)
     (λ c. search rules))

@@ -12,10 +12,10 @@ use Rattle.second.specs.Answers.{apart}
 use Rattle.second.proofs.masks.apart.Statement.{statement}
 use Rattle.second.proofs.masks.apart.Tie as tie
 
-abbrev invariant_loop : tie.invariant_loop
+abbrev invariant_loop : tie.invariant-loop-p
 invariant_loop a b all₀ p₀ all p = (p ≤ 64) × (all ≡ every p (λ q. not (bit q a && bit q b)))
 
-abbrev decreases_loop : tie.decreases_loop
+abbrev decreases_loop : tie.decreases-loop-p
 decreases_loop a b all₀ p₀ all p = 64 - p
 
 pub apart_spec : {M : Type 1} → statement M
@@ -31,13 +31,13 @@ apart_spec =
     (λ c. omega arith)
     (λ c. omega arith)
     (λ c.
-    let l = c.before.before.before.loop in
-    let x = c.before.before.before.before.args in (
+    let l = c.loop-p in
+    let x = c.args in (
       omega arith,
-      ap₂ ◌&&◌ l.invariant.1 (ap not (ap₂ ◌&&◌ c.before.bit.ensures c.bit2.ensures))
+      ap₂ ◌&&◌ l.invariant.1 (ap not (ap₂ ◌&&◌ c.bit.ensures c.bit-in-loop-p.ensures))
           ∙ sym (every_next l.p (λ q. not (bit q x.a && bit q x.b))),
     ))
     (λ c.
-    let l = c.before.loop in
-    let x = c.before.before.args in
-    l.invariant.1 ∙ ap (λ (k : ℕ). every k (λ q. not (bit q x.a && bit q x.b))) (le_antisymm l.invariant.0 c.loop-test.false)))
+    let l = c.loop-p in
+    let x = c.args in
+    l.invariant.1 ∙ ap (λ (k : ℕ). every k (λ q. not (bit q x.a && bit q x.b))) (le_antisymm l.invariant.0 c.loop-p-test.false)))

@@ -18,10 +18,10 @@ use Rattle.second.proofs.masks.bits_right.Tie as tie
 abbrev right_at : List ℕ → ℕ → ℕ → ℕ → Bool
 right_at l mask alternative q = agree (bit q mask) (closed_cell l q && eqb (named_cell l q) alternative)
 
-abbrev invariant_loop : tie.invariant_loop
+abbrev invariant_loop : tie.invariant-loop-p
 invariant_loop cells mask alternative all₀ p₀ all p = (p ≤ 64) × (all ≡ every p (right_at cells mask alternative))
 
-abbrev decreases_loop : tie.decreases_loop
+abbrev decreases_loop : tie.decreases-loop-p
 decreases_loop cells mask alternative all₀ p₀ all p = 64 - p
 
 pub bits_right_spec : {M : Type 1} → statement M
@@ -39,16 +39,16 @@ bits_right_spec =
     (λ c. omega arith)
     (λ c. omega arith)
     (λ c.
-    let n = c.before.before in
-    let l = n.before.before.before.loop in
-    let a = n.before.before.before.before.before.args in (
+    let n = c in
+    let l = n.loop-p in
+    let a = n.args in (
       omega arith,
       ap₂ ◌&&◌ l.invariant.1
-          (c.agree.ensures
-          ∙ ap₂ agree c.before.bit.ensures (ap₂ ◌&&◌ n.before.is_closed.ensures (ap (λ (k : ℕ). eqb k a.alternative) n.named.ensures)))
+          (c.agree-all.ensures
+          ∙ ap₂ agree c.bit.ensures (ap₂ ◌&&◌ n.is_closed.ensures (ap (λ (k : ℕ). eqb k a.alternative) n.named.ensures)))
           ∙ sym (every_next l.p (right_at a.cells.now a.mask a.alternative)),
     ))
     (λ c.
-    let l = c.before.loop in
-    let a = c.before.before.before.args in
-    l.invariant.1 ∙ ap (λ (k : ℕ). every k (right_at a.cells.now a.mask a.alternative)) (le_antisymm l.invariant.0 c.loop-test.false)))
+    let l = c.loop-p in
+    let a = c.args in
+    l.invariant.1 ∙ ap (λ (k : ℕ). every k (right_at a.cells.now a.mask a.alternative)) (le_antisymm l.invariant.0 c.loop-p-test.false)))
