@@ -14,8 +14,8 @@ drawn_spec =
     (λ c. search rules)
     (λ c. search rules)
     (λ c. search rules)
-    (λ c. omega (arith, c.shared-slice-known2.given (104 + c.before.before.before.before.args.p)))
+    (λ c. omega (arith, c.shared_slice_known-then-is_closed-1.given (104 + c.args.p)))
     (λ c.
-    let a = c.before.before.before.before.args in
-    (simp (sym c.before.before.is_closed.ensures ∙ c.before.if1.true), omega (arith, c.shared-slice-known2.given (104 + a.p))))
-    (λ c. (simp (sym c.before.is_closed.ensures ∙ c.if1.false), omega arith)))
+    let a = c.args in
+    (simp (sym c.is_closed.ensures ∙ c.if-is_closed.true), omega (arith, c.shared_slice_known-then-is_closed-1.given (104 + a.p))))
+    (λ c. (simp (sym c.is_closed.ensures ∙ c.if-is_closed.false), omega arith)))

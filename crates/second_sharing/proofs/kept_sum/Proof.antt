@@ -17,10 +17,10 @@ use Rattle.second_sharing.proofs.kept_sum.Tie as tie
 abbrev drawn_at : List ℕ → ℕ → ℕ
 drawn_at l p = cond (closed_cell l p) (get_or l (104 + p) 0) 0
 
-abbrev invariant_loop : tie.invariant_loop
+abbrev invariant_loop : tie.invariant-loop-p
 invariant_loop cells sum₀ p₀ sum p = (p ≤ 48) × (sum ≡ total p (drawn_at cells)) × (sum ≤ p * 65535)
 
-abbrev decreases_loop : tie.decreases_loop
+abbrev decreases_loop : tie.decreases-loop-p
 decreases_loop cells sum₀ p₀ sum p = 48 - p
 
 pub kept_sum_spec : {M : Type 1} → statement M
@@ -32,17 +32,17 @@ kept_sum_spec =
     decreases_loop
     (λ c. (search rules, sym (total_zero 0 _ (λ p l. absurd (omega arith))), omega arith))
     (λ c κs. search rules)
-    (λ c. omega (arith, c.drawn.ensures.1))
+    (λ c. omega (arith, c.drawn-sum.ensures.1))
     (λ c. omega arith)
     (λ c. omega arith)
     (λ c.
-    let l = c.before.before.loop in
-    let a = c.before.before.before.before.args in (
+    let l = c.loop-p in
+    let a = c.args in (
       omega arith,
-      ap₂ ◌+◌ l.invariant.1 c.drawn.ensures.0 ∙ sym (total_next l.p (drawn_at a.cells.now)),
-      omega (arith, c.drawn.ensures.1),
+      ap₂ ◌+◌ l.invariant.1 c.drawn-sum.ensures.0 ∙ sym (total_next l.p (drawn_at a.cells.now)),
+      omega (arith, c.drawn-sum.ensures.1),
     ))
     (λ c.
-    let l = c.before.loop in
-    let a = c.before.before.before.args in
-    (l.invariant.1 ∙ ap (λ (k : ℕ). total k (drawn_at a.cells.now)) (le_antisymm l.invariant.0 c.loop-test.false), omega arith)))
+    let l = c.loop-p in
+    let a = c.args in
+    (l.invariant.1 ∙ ap (λ (k : ℕ). total k (drawn_at a.cells.now)) (le_antisymm l.invariant.0 c.loop-p-test.false), omega arith)))

@@ -11,10 +11,10 @@ use Rattle.second_sharing.specs.Shared.{denied_cell, none_denied}
 use Rattle.second_sharing.proofs.none_denied.Statement.{statement}
 use Rattle.second_sharing.proofs.none_denied.Tie as tie
 
-abbrev invariant_loop : tie.invariant_loop
+abbrev invariant_loop : tie.invariant-loop-p
 invariant_loop cells none₀ p₀ none p = (p ≤ 48) × (none ≡ every p (λ q. not (denied_cell cells q)))
 
-abbrev decreases_loop : tie.decreases_loop
+abbrev decreases_loop : tie.decreases-loop-p
 decreases_loop cells none₀ p₀ none p = 48 - p
 
 pub none_denied_spec : {M : Type 1} → statement M
@@ -29,10 +29,10 @@ none_denied_spec =
     (λ c. omega arith)
     (λ c. omega arith)
     (λ c.
-    let l = c.before.before.loop in
-    let a = c.before.before.before.before.args in
+    let l = c.loop-p in
+    let a = c.args in
     (omega arith, ap₂ ◌&&◌ l.invariant.1 (ap not c.is_denied.ensures) ∙ sym (every_next l.p (λ q. not (denied_cell a.cells.now q)))))
     (λ c.
-    let l = c.before.loop in
-    let a = c.before.before.before.args in
-    l.invariant.1 ∙ ap (λ (k : ℕ). every k (λ q. not (denied_cell a.cells.now q))) (le_antisymm l.invariant.0 c.loop-test.false)))
+    let l = c.loop-p in
+    let a = c.args in
+    l.invariant.1 ∙ ap (λ (k : ℕ). every k (λ q. not (denied_cell a.cells.now q))) (le_antisymm l.invariant.0 c.loop-p-test.false)))

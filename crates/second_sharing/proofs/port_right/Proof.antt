@@ -14,7 +14,7 @@ port_right_spec =
     (λ c. search rules)
     (λ c. search rules)
     (λ c. search rules)
-    (λ c. omega (arith, c.shared-slice-known3.given (104 + c.before.before.before.args.p)))
+    (λ c. omega (arith, c.shared_slice_known-3-1.given (104 + c.args.p)))
     (λ c κs. search rules)
     (λ c κs. search rules)
     (λ c κs. search rules)
@@ -22,6 +22,6 @@ port_right_spec =
     (λ c κs. search rules)
     (λ c κs. search rules)
     (λ c.
-    let l = c.before.before in
-    let e = l.before in
-    simp (c.is_denied.ensures, c.before.is_closed.ensures, l.left.ensures, e.entered.ensures, e.before.claim.ensures.0, e.before.before.place.ensures.0)))
+    let l = c in
+    let e = l in
+    simp (c.is_denied.ensures, c.is_closed.ensures, l.left-shed.ensures, e.entered.ensures, e.claim.ensures.0, e.place.ensures.0)))

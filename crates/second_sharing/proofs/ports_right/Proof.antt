@@ -11,10 +11,10 @@ use Rattle.second_sharing.specs.Shared.{port_right, ports_right}
 use Rattle.second_sharing.proofs.ports_right.Statement.{statement}
 use Rattle.second_sharing.proofs.ports_right.Tie as tie
 
-abbrev invariant_loop : tie.invariant_loop
+abbrev invariant_loop : tie.invariant-loop-p
 invariant_loop before after first all₀ p₀ all p = (p ≤ 48) × (all ≡ every p (port_right before after first))
 
-abbrev decreases_loop : tie.decreases_loop
+abbrev decreases_loop : tie.decreases-loop-p
 decreases_loop before after first all₀ p₀ all p = 48 - p
 
 pub ports_right_spec : {M : Type 1} → statement M
@@ -29,10 +29,10 @@ ports_right_spec =
     (λ c. omega arith)
     (λ c. omega arith)
     (λ c.
-    let l = c.before.before.loop in
-    let a = c.before.before.before.before.before.args in
-    (omega arith, ap₂ ◌&&◌ l.invariant.1 c.port_right_lem.ensures ∙ sym (every_next l.p (port_right a.before.now a.after.now a.first))))
+    let l = c.loop-p in
+    let a = c.args in
+    (omega arith, ap₂ ◌&&◌ l.invariant.1 c.port_right-all.ensures ∙ sym (every_next l.p (port_right a.before.now a.after.now a.first))))
     (λ c.
-    let l = c.before.loop in
-    let a = c.before.before.before.before.args in
-    l.invariant.1 ∙ ap (λ (k : ℕ). every k (port_right a.before.now a.after.now a.first)) (le_antisymm l.invariant.0 c.loop-test.false)))
+    let l = c.loop-p in
+    let a = c.args in
+    l.invariant.1 ∙ ap (λ (k : ℕ). every k (port_right a.before.now a.after.now a.first)) (le_antisymm l.invariant.0 c.loop-p-test.false)))

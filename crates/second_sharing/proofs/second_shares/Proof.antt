@@ -13,26 +13,26 @@ second_shares_spec =
     (tie.spec
     (λ c. search rules)
     (λ c κs. search rules)
-    (λ c. simp (ne_eqb _ _ (λ e. c.if1.true (c.before.tick_number_lem.ensures ∙ e))))
+    (λ c. simp (ne_eqb _ _ (λ e. c.if-tick_number-ne0.true (c.tick_number.ensures ∙ e))))
     (λ c. search rules)
     (λ c κs. search rules)
     (λ c.
-    let e = c.before.before.before in
-    simp (eq-eqb _ _ (sym e.before.tick_number_lem.ensures ∙ e.if1.false), sym c.before.none_denied.ensures ∙ not-true _ c.if2.true))
+    let e = c in
+    simp (eq-eqb _ _ (sym e.tick_number.ensures ∙ e.if-tick_number-ne0.false), sym c.none_denied.ensures ∙ c.if-not-none_denied.true))
     (λ c. search rules)
     (λ c κs. search rules)
     (λ c. search rules)
     (λ c. search rules)
     (λ c κs. search rules)
     (λ c.
-    let n = c.before.before.before.before.before.before.before in
-    let e = n.before.before.before in
-    simp (eq-eqb _ _ (sym e.before.tick_number_lem.ensures ∙ e.if1.false), sym n.before.none_denied.ensures ∙ not-false _ n.if2.false))
+    let n = c in
+    let e = n in
+    simp (eq-eqb _ _ (sym e.tick_number.ensures ∙ e.if-tick_number-ne0.false), sym n.none_denied.ensures ∙ n.if-not-none_denied.false))
     (λ c.
-    let t = c.before.before.before.before.before in
-    let n = t.before.before in
-    let e = n.before.before.before in
-    absurd (not_both_lem c.before.shares_right.result
-    (c.before.shares_right.ensures
-    ∙ shares_in _ _ _ _ t.tick.ensures.1 (sym e.before.tick_number_lem.ensures ∙ e.if1.false) (sym n.before.none_denied.ensures ∙ not-false _ n.if2.false))
-    c.if3.false)))
+    let t = c in
+    let n = t in
+    let e = n in
+    absurd (not_both_lem c.shares_right.result
+    (c.shares_right.ensures
+    ∙ shares_in _ _ _ _ t.tick.ensures.1 (sym e.tick_number.ensures ∙ e.if-tick_number-ne0.false) (sym n.none_denied.ensures ∙ n.if-not-none_denied.false))
+    c.if-shares_right.false)))

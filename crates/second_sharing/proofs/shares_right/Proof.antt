@@ -37,25 +37,25 @@ shares_right_spec =
     (λ c κs. search rules)
     (λ c κs. search rules)
     (λ c.
-    let r = c.before in
-    let f = r.before.before.first_shed.ensures.0 in
-    wrong_port _ _ _ (ap (ports_right _ _) (sym f) ∙ sym r.ports_right.ensures ∙ not-true _ c.if1.true))
+    let r = c in
+    let f = r.first_shed-first.ensures.0 in
+    wrong_port _ _ _ (ap (ports_right _ _) (sym f) ∙ sym r.ports_right.ensures ∙ c.if-not-ports_right.true))
     (λ c.
-    let r = c.before.before in
-    let f = r.before.before.first_shed.ensures.0 in
-    let s = r.before.kept_sum.ensures.0 in
-    over _ _ _ (ap (ports_right _ _) (sym f) ∙ sym r.ports_right.ensures ∙ not-false _ c.before.if1.false) (omega (arith, s)))
+    let r = c in
+    let f = r.first_shed-first.ensures.0 in
+    let s = r.kept_sum-sum.ensures.0 in
+    over _ _ _ (ap (ports_right _ _) (sym f) ∙ sym r.ports_right.ensures ∙ c.if-not-ports_right.false) (omega (arith, s)))
     (λ c.
-    let r = c.before.before.before in
-    let f = r.before.before.first_shed.ensures.0 in
-    let s = r.before.kept_sum.ensures.0 in
-    none_shed _ _ _ (ap (ports_right _ _) (sym f) ∙ sym r.ports_right.ensures ∙ not-false _ c.before.before.if1.false) (omega (arith, s)) (sym f ∙ c.if3.true))
+    let r = c in
+    let f = r.first_shed-first.ensures.0 in
+    let s = r.kept_sum-sum.ensures.0 in
+    none_shed _ _ _ (ap (ports_right _ _) (sym f) ∙ sym r.ports_right.ensures ∙ c.if-not-ports_right.false) (omega (arith, s)) (sym f ∙ c.if-first-eq384.true))
     (λ c κs. (search rules, search rules, omega arith))
     (λ c. omega arith)
     (λ c.
-    let r = c.before.before.before.before in
-    let f = r.before.before.first_shed.ensures.0 in
-    let s = r.before.kept_sum.ensures.0 in
-    let a = r.before.before.before.before.before.args in
+    let r = c in
+    let f = r.first_shed-first.ensures.0 in
+    let s = r.kept_sum-sum.ensures.0 in
+    let a = r.args in
     ap (ltb a.figure) (ap₂ ◌+◌ s (c.claim.ensures.0 ∙ ap (λ (k : ℕ). claim_cell a.before.now a.after.now (k % 64)) f))
-    ∙ some_shed _ _ _ (ap (ports_right _ _) (sym f) ∙ sym r.ports_right.ensures ∙ not-false _ c.before.before.before.if1.false) (omega (arith, s)) (λ e. c.before.if3.false (f ∙ e))))
+    ∙ some_shed _ _ _ (ap (ports_right _ _) (sym f) ∙ sym r.ports_right.ensures ∙ c.if-not-ports_right.false) (omega (arith, s)) (λ e. c.if-first-eq384.false (f ∙ e))))

@@ -11,17 +11,17 @@ sooner_spec =
     tie.close
     (tie.spec
     (λ c κs. search rules)
-    (λ c. (simp (sym c.before.is_denied.ensures ∙ not-true _ c.if1.true) (omega arith), omega arith, omega arith))
+    (λ c. (simp (sym c.is_denied.ensures ∙ c.if-not-is_denied.true) (omega arith), omega arith, omega arith))
     (λ c κs. search rules)
     (λ c.
-    let b = c.before.before in (
-      simp (sym b.before.is_denied.ensures ∙ not-false _ b.if1.false) (omega (arith, c.before.place.ensures.0)),
+    let b = c in (
+      simp (sym b.is_denied.ensures ∙ b.if-not-is_denied.false) (omega (arith, c.place-here.ensures.0)),
       omega arith,
-      omega (arith, c.before.place.ensures.2),
+      omega (arith, c.place-here.ensures.2),
     ))
     (λ c.
-    let b = c.before.before in (
-      simp (sym b.before.is_denied.ensures ∙ not-false _ b.if1.false) (omega (arith, c.before.place.ensures.0)),
+    let b = c in (
+      simp (sym b.is_denied.ensures ∙ b.if-not-is_denied.false) (omega (arith, c.place-here.ensures.0)),
       omega arith,
       omega arith,
     )))

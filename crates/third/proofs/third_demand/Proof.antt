@@ -12,11 +12,11 @@ use Rattle.third.proofs.third_demand.Statement.{statement}
 use Rattle.third.proofs.third_demand.Tie as tie
 
 -- the two ticks of what was reached
-module _ (c : tie.After-tick-from2) where
-  abbrev s : tie.After-tick-from
+module _ (c : tie.After-tick_from-great) where
+  abbrev s : tie.After-tick_from-small
   s = c.before
 
-  abbrev r : tie.After-run
+  abbrev r : tie.After-run-reached
   r = s.before
 
   abbrev start : tie.Start
@@ -33,35 +33,35 @@ third_demand_spec =
     tie.close
     (tie.spec
     (λ c κs. search rules)
-    (λ c. simp (sym c.before.asked.ensures ∙ not-true c.before.asked.result c.if1.true))
+    (λ c. simp (sym c.asked.ensures ∙ c.if-not-asked.true))
     (λ c κs. search rules)
     (λ c κs. search rules)
     (λ c κs. search rules)
     (λ c κs. search rules)
     (λ c.
-    let b = c.before.before in
-    let t = b.before.tick_from.ensures in
-    let r = b.before.before.run.ensures in
-    absurd (not_both_lem c.before.sound.result
-    (c.before.sound.ensures ∙ sound_in_lem _ _ _ _ _ _ _ _ _ r.0 r.1 t.0 t.1.0 t.1.1 (small _ _ _ _ (so b)))
-    (not-true c.before.sound.result c.if2.true)))
+    let b = c in
+    let t = b.tick_from-small.ensures in
+    let r = b.run-reached.ensures in
+    absurd (not_both_lem c.sound.result
+    (c.sound.ensures ∙ sound_in_lem _ _ _ _ _ _ _ _ _ r.0 r.1 t.0 t.1.0 t.1.1 (small _ _ _ _ (so b)))
+    c.if-not-sound.true))
     (λ c κs. search rules)
     (λ c.
-    let b = c.before.before.before.before in
-    let t = b.tick_from2.ensures in
-    let r = b.before.before.run.ensures in
-    absurd (not_both_lem c.before.sound2.result
-    (c.before.sound2.ensures ∙ sound_in_lem _ _ _ _ _ _ _ _ _ r.0 r.1 t.0 t.1.0 t.1.1 (great _ _ _ _ (so b)))
-    (not-true c.before.sound2.result c.if3.true)))
+    let b = c in
+    let t = b.tick_from-great.ensures in
+    let r = b.run-reached.ensures in
+    absurd (not_both_lem c.sound-2.result
+    (c.sound-2.ensures ∙ sound_in_lem _ _ _ _ _ _ _ _ _ r.0 r.1 t.0 t.1.0 t.1.1 (great _ _ _ _ (so b)))
+    c.if-not-sound-2.true))
     (λ c κs. search rules)
     (λ c.
-    let b = c.before.before.before.before.before.before.before.before in
-    let t = b.before.tick_from.ensures in
-    let u = b.tick_from2.ensures in
-    let r = b.before.before.run.ensures in
-    absurd (not_both_lem c.before.none_lost.result
-    (c.before.none_lost.ensures
+    let b = c in
+    let t = b.tick_from-small.ensures in
+    let u = b.tick_from-great.ensures in
+    let r = b.run-reached.ensures in
+    absurd (not_both_lem c.none_lost.result
+    (c.none_lost.ensures
     ∙ ap₂ none_lost_in (answer_in _ _ _ _ _ _ _ _ _ r.0 r.1 t.0 t.1.0 t.1.1) (answer_in _ _ _ _ _ _ _ _ _ r.0 r.1 u.0 u.1.0 u.1.1)
     ∙ loses_none _ _ _ _ (so b) _)
-    (not-true c.before.none_lost.result c.if4.true)))
+    c.if-not-none_lost.true))
     (λ c. simp (is_asked c.before.before.before.before.before.before.before.before)))

@@ -37,8 +37,8 @@ first_write_spec =
     let if1 = c.if-not-same_bytes in
     let a = c.args in
     let write = c.write in
-    let number = c.number-1 in
+    let number = c.in-Refused in
     let write_number = c.write_number-write_due in
     let s = sym same_bytes.ensures ∙ if1.false in
-    let r = write_refused a.fields a.room.now _ (sym write.ensures.0 ∙ number.given.1) in
+    let r = write_refused a.fields a.room.now _ (sym write.ensures.0 ∙ number.is) in
     held_refusal _ s _ _ _ _ _ write.ensures.1 _ _ _ c.refused.ensures write_number.ensures r (λ e. c.same_bytes-in-Refused.ensures ∙ ap (alike a.before.now) (write.ensures.1 ∙ e) ∙ s)))

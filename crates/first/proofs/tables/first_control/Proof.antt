@@ -36,8 +36,8 @@ first_control_spec =
     let if1 = c.if-not-same in
     let a = c.args in
     let write_control = c.write_control in
-    let number = c.number-1 in
+    let number = c.in-Refused in
     let control_number = c.control_number-control_due in
     let s = sym same.ensures ∙ if1.false in
-    let r = control_refused a.cells.now a.port a.word _ (sym write_control.ensures.0 ∙ number.given.1) in
+    let r = control_refused a.cells.now a.port a.word _ (sym write_control.ensures.0 ∙ number.is) in
     held_refusal _ s _ _ _ _ _ write_control.ensures.1 _ _ _ c.refused.ensures control_number.ensures r (λ e. c.same-in-Refused.ensures ∙ ap (alike a.before.now) (write_control.ensures.1 ∙ e) ∙ s)))

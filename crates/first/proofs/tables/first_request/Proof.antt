@@ -36,8 +36,8 @@ first_request_spec =
     let if1 = c.if-not-same in
     let a = c.args in
     let request = c.request in
-    let number = c.number-1 in
+    let number = c.in-Refused in
     let request_number = c.request_number-request_due in
     let s = sym same.ensures ∙ if1.false in
-    let r = request_refused a.cells.now a.port a.value _ (sym request.ensures.0 ∙ number.given.1) in
+    let r = request_refused a.cells.now a.port a.value _ (sym request.ensures.0 ∙ number.is) in
     held_refusal _ s _ _ _ _ _ request.ensures.1 _ _ _ c.refused.ensures request_number.ensures r (λ e. c.same-in-Refused.ensures ∙ ap (alike a.before.now) (request.ensures.1 ∙ e) ∙ s)))

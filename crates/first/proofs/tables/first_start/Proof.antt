@@ -36,8 +36,8 @@ first_start_spec =
     let if1 = c.if-not-same in
     let a = c.args in
     let cold_start = c.cold_start in
-    let number = c.number-1 in
+    let number = c.in-Refused in
     let start-number = c.start_number-start_due in
     let s = sym same.ensures ∙ if1.false in
-    let r = start_refused a.cells.now a.ports _ (sym cold_start.ensures.0 ∙ number.given.1) in
+    let r = start_refused a.cells.now a.ports _ (sym cold_start.ensures.0 ∙ number.is) in
     held_refusal _ s _ _ _ _ _ cold_start.ensures.1 _ _ _ c.refused.ensures start-number.ensures r (λ e. c.same-in-Refused.ensures ∙ ap (alike a.before.now) (cold_start.ensures.1 ∙ e) ∙ s)))

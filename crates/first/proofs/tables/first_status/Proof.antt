@@ -36,8 +36,8 @@ first_status_spec =
     let if1 = c.if-not-same in
     let a = c.args in
     let read_status = c.read_status in
-    let number = c.number-1 in
+    let number = c.in-Refused in
     let status_number_lem = c.status_number-status_due in
     let s = sym same.ensures ∙ if1.false in
-    let r = status_refused a.cells.now a.port _ (sym read_status.ensures.0 ∙ number.given.1) in
+    let r = status_refused a.cells.now a.port _ (sym read_status.ensures.0 ∙ number.is) in
     held_refusal _ s _ _ _ _ _ read_status.ensures.1 _ _ _ c.refused.ensures status_number_lem.ensures r (λ e. c.same-in-Refused.ensures ∙ ap (alike a.before.now) (read_status.ensures.1 ∙ e) ∙ s)))

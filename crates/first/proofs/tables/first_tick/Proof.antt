@@ -36,8 +36,8 @@ first_tick_spec =
     let if1 = c.if-not-same in
     let a = c.args in
     let tick = c.tick in
-    let number = c.number-1 in
+    let number = c.in-Refused in
     let tick_number_lem = c.tick_number-tick_due in
     let s = sym same.ensures ∙ if1.false in
-    let r = tick_refused a.cells.now a.block.now a.figure _ (sym tick.ensures.0 ∙ number.given.1) in
+    let r = tick_refused a.cells.now a.block.now a.figure _ (sym tick.ensures.0 ∙ number.is) in
     held_refusal _ s _ _ _ _ _ tick.ensures.1 _ _ _ c.refused.ensures tick_number_lem.ensures r (λ e. c.same-in-Refused.ensures ∙ ap (alike a.before.now) (tick.ensures.1 ∙ e) ∙ s)))

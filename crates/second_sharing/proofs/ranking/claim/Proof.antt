@@ -42,27 +42,27 @@ claim_spec =
     (λ c. search rules)
     (λ c. search rules)
     (λ c. search rules)
-    (λ c. omega (arith, c.shared-slice-known3.given (104 + c.before.before.before.before.before.args.p)))
+    (λ c. omega (arith, c.shared_slice_known-then-is_closed-1.given (104 + c.args.p)))
     (λ c.
-    let a = c.before.before.before.before.before.args in
-    (holds _ _ _ (sym c.before.before.is_closed.ensures ∙ c.before.if1.true), omega (arith, c.shared-slice-known3.given (104 + a.p))))
+    let a = c.args in
+    (holds _ _ _ (sym c.is_closed.ensures ∙ c.if-is_closed.true), omega (arith, c.shared_slice_known-then-is_closed-1.given (104 + a.p))))
     (λ c. search rules)
     (λ c. search rules)
     (λ c. search rules)
-    (λ c. (forces _ _ _ (sym c.before.before.before.is_closed.ensures ∙ c.before.before.if1.false) c.if2.true, omega arith))
+    (λ c. (forces _ _ _ (sym c.is_closed.ensures ∙ c.if-is_closed.false) c.if-before-p-eq1.true, omega arith))
     (λ c. search rules)
     (λ c. search rules)
     (λ c. search rules)
-    (λ c. omega (arith, c.shared-slice-known5.given (152 + c.before.before.before.before.before.before.before.args.p)))
+    (λ c. omega (arith, c.shared_slice_known-4-1.given (152 + c.args.p)))
     (λ c.
-    let b = c.before.before in
-    (sym (get_or-eq_default budgets 0 c.if3.true) ∙ classes _ _ _ (sym b.before.before.before.is_closed.ensures ∙ b.before.before.if1.false) b.if2.false, omega arith))
+    let b = c in
+    (sym (get_or-eq_default budgets 0 c.if-class-ge5.true) ∙ classes _ _ _ (sym b.is_closed.ensures ∙ b.if-is_closed.false) b.if-before-p-eq1.false, omega arith))
     (λ c. search rules)
     (λ c. search rules)
     (λ c.
-    let a = c.before.before.before.before.before.before.before.before.args in
+    let a = c.args in
     omega (arith, small (get_or a.after.now (152 + a.p) 0)))
     (λ c.
-    let b = c.before.before in
-    let a = b.before.before.before.before.before.before.args in
-    (classes _ _ _ (sym b.before.before.before.is_closed.ensures ∙ b.before.before.if1.false) b.if2.false, small (get_or a.after.now (152 + a.p) 0))))
+    let b = c in
+    let a = b.args in
+    (classes _ _ _ (sym b.is_closed.ensures ∙ b.if-is_closed.false) b.if-before-p-eq1.false, small (get_or a.after.now (152 + a.p) 0))))

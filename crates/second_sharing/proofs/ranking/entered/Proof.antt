@@ -30,15 +30,15 @@ entered_spec =
     tie.close
     (tie.spec
     (λ c κs. search rules)
-    (λ c. holds _ _ _ (sym c.before.is_closed.ensures ∙ c.if1.true))
+    (λ c. holds _ _ _ (sym c.is_closed.ensures ∙ c.if-is_closed.true))
     (λ c. search rules)
     (λ c. search rules)
     (λ c. search rules)
     (λ c. search rules)
     (λ c. search rules)
     (λ c. search rules)
-    (λ c. let b = c.before.before.before in tests _ _ _ (sym b.before.is_closed.ensures ∙ b.if1.false) c.before.if2.true)
+    (λ c. let b = c in tests _ _ _ (sym b.is_closed.ensures ∙ b.if-is_closed.false) c.if-before-p-eq1.true)
     (λ c. search rules)
     (λ c. search rules)
     (λ c. search rules)
-    (λ c. let b = c.before.before.before in rises _ _ _ (sym b.before.is_closed.ensures ∙ b.if1.false) c.before.if2.false))
+    (λ c. let b = c in rises _ _ _ (sym b.is_closed.ensures ∙ b.if-is_closed.false) c.if-before-p-eq1.false))

@@ -15,6 +15,6 @@ place_spec =
     (λ c. omega arith)
     (λ c. omega arith)
     (λ c κs. search rules)
-    (λ c. (simp (sym c.before.is_closed.ensures ∙ c.if1.true) (omega arith), omega arith, omega arith))
+    (λ c. (simp (sym c.is_closed.ensures ∙ c.if-is_closed.true) (omega arith), omega arith, omega arith))
     (λ c. omega arith)
-    (λ c. (simp (sym c.before.is_closed.ensures ∙ c.if1.false) (omega arith), omega arith, omega arith)))
+    (λ c. (simp (sym c.is_closed.ensures ∙ c.if-is_closed.false) (omega arith), omega arith, omega arith)))

@@ -19,10 +19,10 @@ use Rattle.third_tests.proofs.answers.all_shown.Tie as tie
 abbrev shown_at : List ℕ → List ℕ → TickAnswer → ℕ → Bool
 shown_at l marks x q = (not (closed_in x q) || eqb (get_or l (8 + q) 0) 8) || eqb (get_or marks q 0) 3
 
-abbrev invariant_loop : tie.invariant_loop
+abbrev invariant_loop : tie.invariant-loop-p
 invariant_loop cells shown answer all₀ p₀ all p = (p ≤ 48) × (all ≡ every p (shown_at cells shown answer))
 
-abbrev decreases_loop : tie.decreases_loop
+abbrev decreases_loop : tie.decreases-loop-p
 decreases_loop cells shown answer all₀ p₀ all p = 48 - p
 
 pub all_shown_spec : {M : Type 1} → statement M
@@ -41,14 +41,14 @@ all_shown_spec =
     (λ c. omega arith)
     (λ c. omega arith)
     (λ c.
-    let t = c.before.before in
-    let l = t.before.before.loop in
-    let a = t.before.before.before.before.before.args in (
+    let t = c in
+    let l = t.loop-p in
+    let a = t.args in (
       omega arith,
-      ap₂ (λ (x y : Bool). x && ((not y || eqb (get_or a.cells.now (8 + l.p) 0) 8) || eqb (get_or a.shown.now l.p 0) 3)) l.invariant.1 t.closed_in_lem.ensures
+      ap₂ (λ (x y : Bool). x && ((not y || eqb (get_or a.cells.now (8 + l.p) 0) 8) || eqb (get_or a.shown.now l.p 0) 3)) l.invariant.1 t.closed_in.ensures
           ∙ sym (every_next l.p (shown_at a.cells.now a.shown.now a.answer)),
     ))
     (λ c.
-    let l = c.before.loop in
-    let a = c.before.before.before.before.args in
-    l.invariant.1 ∙ ap (λ (k : ℕ). every k (shown_at a.cells.now a.shown.now a.answer)) (le_antisymm l.invariant.0 c.loop-test.false)))
+    let l = c.loop-p in
+    let a = c.args in
+    l.invariant.1 ∙ ap (λ (k : ℕ). every k (shown_at a.cells.now a.shown.now a.answer)) (le_antisymm l.invariant.0 c.loop-p-test.false)))

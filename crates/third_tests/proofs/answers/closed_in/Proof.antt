@@ -6,4 +6,4 @@ use Rattle.third_tests.proofs.answers.closed_in.Statement.{statement}
 use Rattle.third_tests.proofs.answers.closed_in.Tie as tie
 
 pub closed_in_spec : {M : Type 1} → statement M
-closed_in_spec = tie.close (tie.spec (λ c κs. search rules) (λ c κs. search rules) (λ c. ap₂ ◌||◌ c.before.bit.ensures c.bit2.ensures))
+closed_in_spec = tie.close (tie.spec (λ c κs. search rules) (λ c κs. search rules) (λ c. ap₂ ◌||◌ c.bit.ensures c.bit-2.ensures))

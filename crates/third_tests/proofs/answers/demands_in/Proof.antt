@@ -17,10 +17,10 @@ use Rattle.third_tests.proofs.answers.demands_in.Tie as tie
 abbrev drawn : List ℕ → TickAnswer → ℕ → ℕ
 drawn l x q = cond (closed_in x q) (get_or l (104 + q) 0) 0
 
-abbrev invariant_loop : tie.invariant_loop
+abbrev invariant_loop : tie.invariant-loop-p
 invariant_loop cells answer sum₀ p₀ sum p = (p ≤ 48) × (sum ≡ total p (drawn cells answer)) × (sum ≤ 65535 * p)
 
-abbrev decreases_loop : tie.decreases_loop
+abbrev decreases_loop : tie.decreases-loop-p
 decreases_loop cells answer sum₀ p₀ sum p = 48 - p
 
 pub demands_in_spec : {M : Type 1} → statement M
@@ -40,15 +40,15 @@ demands_in_spec =
     (λ c. omega arith)
     (λ c. omega arith)
     (λ c.
-    let k = c.before.before in
-    let l = k.before.before.loop in
-    let a = k.before.before.before.before.args in (
+    let k = c in
+    let l = k.loop-p in
+    let a = k.args in (
       omega arith,
-      ap₂ ◌+◌ l.invariant.1 (c.drawn.ensures.0 ∙ ap (λ (b : Bool). cond b (get_or a.cells.now (104 + l.p) 0) 0) k.closed_in_lem.ensures)
+      ap₂ ◌+◌ l.invariant.1 (c.drawn-sum.ensures.0 ∙ ap (λ (b : Bool). cond b (get_or a.cells.now (104 + l.p) 0) 0) k.closed_in.ensures)
           ∙ sym (total_next l.p (drawn a.cells.now a.answer)),
       omega arith,
     ))
     (λ c.
-    let l = c.before.loop in
-    let a = c.before.before.before.args in
-    l.invariant.1 ∙ ap (λ (k : ℕ). total k (drawn a.cells.now a.answer)) (le_antisymm l.invariant.0 c.loop-test.false)))
+    let l = c.loop-p in
+    let a = c.args in
+    l.invariant.1 ∙ ap (λ (k : ℕ). total k (drawn a.cells.now a.answer)) (le_antisymm l.invariant.0 c.loop-p-test.false)))

@@ -11,10 +11,10 @@ use Rattle.third_tests.specs.Answers.{closed_in, none_lost_in}
 use Rattle.third_tests.proofs.answers.none_lost.Statement.{statement}
 use Rattle.third_tests.proofs.answers.none_lost.Tie as tie
 
-abbrev invariant_loop : tie.invariant_loop
+abbrev invariant_loop : tie.invariant-loop-p
 invariant_loop first second none₀ p₀ none p = (p ≤ 48) × (none ≡ every p (λ q. not (closed_in first q) || closed_in second q))
 
-abbrev decreases_loop : tie.decreases_loop
+abbrev decreases_loop : tie.decreases-loop-p
 decreases_loop first second none₀ p₀ none p = 48 - p
 
 pub none_lost_spec : {M : Type 1} → statement M
@@ -30,13 +30,13 @@ none_lost_spec =
     (λ c. omega arith)
     (λ c. omega arith)
     (λ c.
-    let l = c.before.before.before.loop in
-    let a = c.before.before.before.before.args in (
+    let l = c.loop-p in
+    let a = c.args in (
       omega arith,
-      ap₂ ◌&&◌ l.invariant.1 (ap₂ ◌||◌ (ap not c.before.closed_in_lem.ensures) c.closed_in2.ensures)
+      ap₂ ◌&&◌ l.invariant.1 (ap₂ ◌||◌ (ap not c.closed_in.ensures) c.closed_in-in-loop-p.ensures)
           ∙ sym (every_next l.p (λ q. not (closed_in a.first q) || closed_in a.second q)),
     ))
     (λ c.
-    let l = c.before.loop in
-    let a = c.before.before.args in
-    l.invariant.1 ∙ ap (λ (k : ℕ). every k (λ q. not (closed_in a.first q) || closed_in a.second q)) (le_antisymm l.invariant.0 c.loop-test.false)))
+    let l = c.loop-p in
+    let a = c.args in
+    l.invariant.1 ∙ ap (λ (k : ℕ). every k (λ q. not (closed_in a.first q) || closed_in a.second q)) (le_antisymm l.invariant.0 c.loop-p-test.false)))

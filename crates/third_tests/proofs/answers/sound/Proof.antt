@@ -19,6 +19,6 @@ sound_spec =
     (λ c. search rules)
     (λ c κs. search rules)
     (λ c.
-    let d = c.before.before.before in
-    let a = d.before.before.before.before.before.before.args in
+    let d = c in
+    let a = d.args in
     ap₂ ◌&&◌ (ap (λ (n : ℕ). eqb a.tried.answer.number 0 && leb n a.figure) d.demands_in.ensures) c.all_shown.ensures))

@@ -13,10 +13,10 @@ use Rattle.third_tests.specs.Asks.{flags_clear}
 use Rattle.third_tests.proofs.asked.flags_clear.Statement.{statement}
 use Rattle.third_tests.proofs.asked.flags_clear.Tie as tie
 
-abbrev invariant_loop : tie.invariant_loop
+abbrev invariant_loop : tie.invariant-loop-p
 invariant_loop block ports clear₀ p₀ clear p = (p ≤ ports) × (clear ≡ flags_clear p block)
 
-abbrev decreases_loop : tie.decreases_loop
+abbrev decreases_loop : tie.decreases-loop-p
 decreases_loop block ports clear₀ p₀ clear p = ports - p
 
 pub flags_clear_spec : {M : Type 1} → statement M
@@ -36,9 +36,9 @@ flags_clear_spec =
     (λ c. omega arith)
     (λ c. omega arith)
     (λ c.
-    let l = c.before.before.before.loop in
-    let b = c.before.before.before.before.args.block.now in
+    let l = c.loop-p in
+    let b = c.args.block.now in
     (omega arith, ap₂ ◌&&◌ l.invariant.1 refl ∙ sym (every_next l.p (λ p. eqb (get_or b (14 * p + 12) 0) 0 && ltb (get_or b (14 * p + 13) 0) 64))))
     (λ c.
-    let l = c.before.loop in
-    l.invariant.1 ∙ ap (λ (k : ℕ). flags_clear k c.before.before.args.block.now) (le_antisymm l.invariant.0 c.loop-test.false)))
+    let l = c.loop-p in
+    l.invariant.1 ∙ ap (λ (k : ℕ). flags_clear k c.args.block.now) (le_antisymm l.invariant.0 c.loop-p-test.false)))
