@@ -2,7 +2,6 @@
 use mathlib.Core.Path.{◌≡◌, sym, ◌∙◌, ap₂}
 use mathlib.Core.Bool.{true}
 use borrow.Author.Rules.{rules}
-use borrow.Author.Tests.{not-true, not-false}
 use Rattle.lists.proofs.Tests.{not_both_lem}
 use Rattle.third_tests.specs.Answers.{none_lost_in}
 use Rattle.third_tests.specs.Asks.{asks, Asked}
@@ -23,7 +22,7 @@ module _ (c : tie.After-tick_from-great) where
   start = r.before.before.before.before.before
 
   is_asked : asks start.args.ports start.args.block.now start.args.less start.args.more ≡ true
-  is_asked = sym r.before.before.asked.ensures ∙ not-false r.before.before.asked.result r.before.if1.left
+  is_asked = sym c.asked.ensures ∙ c.if-not-asked.false
 
   abbrev so : Asked start.args.ports start.args.block.now start.args.less start.args.more
   so = asked_so _ _ _ _ is_asked
@@ -43,7 +42,7 @@ third_demand_spec =
     let t = b.tick_from-small.ensures in
     let r = b.run-reached.ensures in
     absurd (not_both_lem c.sound.result
-    (c.sound.ensures ∙ sound_in_lem _ _ _ _ _ _ _ _ _ r.0 r.1 t.0 t.1.0 t.1.1 (small _ _ _ _ (so b)))
+    (c.sound.ensures ∙ sound_in_lem _ _ _ _ _ _ _ _ _ r.0 r.1 t.0 t.1.0 t.1.1 (small _ _ _ _ (so c.before.before)))
     c.if-not-sound.true))
     (λ c κs. search rules)
     (λ c.
@@ -51,7 +50,7 @@ third_demand_spec =
     let t = b.tick_from-great.ensures in
     let r = b.run-reached.ensures in
     absurd (not_both_lem c.sound-2.result
-    (c.sound-2.ensures ∙ sound_in_lem _ _ _ _ _ _ _ _ _ r.0 r.1 t.0 t.1.0 t.1.1 (great _ _ _ _ (so b)))
+    (c.sound-2.ensures ∙ sound_in_lem _ _ _ _ _ _ _ _ _ r.0 r.1 t.0 t.1.0 t.1.1 (great _ _ _ _ (so c.before.before.before.before)))
     c.if-not-sound-2.true))
     (λ c κs. search rules)
     (λ c.
@@ -62,6 +61,6 @@ third_demand_spec =
     absurd (not_both_lem c.none_lost.result
     (c.none_lost.ensures
     ∙ ap₂ none_lost_in (answer_in _ _ _ _ _ _ _ _ _ r.0 r.1 t.0 t.1.0 t.1.1) (answer_in _ _ _ _ _ _ _ _ _ r.0 r.1 u.0 u.1.0 u.1.1)
-    ∙ loses_none _ _ _ _ (so b) _)
+    ∙ loses_none _ _ _ _ (so c.before.before.before.before.before.before.before.before) _)
     c.if-not-none_lost.true))
     (λ c. simp (is_asked c.before.before.before.before.before.before.before.before)))
