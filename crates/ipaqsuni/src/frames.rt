@@ -13,8 +13,7 @@ use writer::Written;
 
 const RESERVED: u32 = refusals::RESERVED as u32;
 
-#[unsafe(no_mangle)]
-pub extern "C" fn ipaqsuni_find_power_tlv(pdu: &[u8], offset: &mut u64, length: &mut u64) -> u32
+pub fn ipaqsuni_find_power_tlv(pdu: &[u8], offset: &mut u64, length: &mut u64) -> u32
     ensures value { result ≡ number_of (find_call pdu.now) }
     ensures offset_after { offset.new ≡ leaves offset_found (find_call pdu.now) offset.old }
     ensures length_after { length.new ≡ leaves size_found (find_call pdu.now) length.old }
@@ -53,8 +52,7 @@ fn numbers_of(fields: Fields) -> [u32; 9]
     }
 }
 
-#[unsafe(no_mangle)]
-pub extern "C" fn ipaqsuni_read_power_tlv(tlv: &[u8], fields: &mut [u32; 9]) -> u32
+pub fn ipaqsuni_read_power_tlv(tlv: &[u8], fields: &mut [u32; 9]) -> u32
     ensures value { result ≡ number_of (read_call tlv.now) }
     ensures fields_after { fields.new ≡ leaves numbers_of (read_call tlv.now) fields.old }
 {
@@ -87,12 +85,7 @@ fn fields_given(numbers: &[u32; 9]) -> Fields
     }
 }
 
-#[unsafe(no_mangle)]
-pub extern "C" fn ipaqsuni_write_power_tlv(
-    fields: &[u32; 9],
-    room: &mut [u8],
-    written: &mut u64,
-) -> u32
+pub fn ipaqsuni_write_power_tlv(fields: &[u32; 9], room: &mut [u8], written: &mut u64) -> u32
     ensures value { result ≡ number_of (write_call fields.now room.old) }
     ensures room_after { room.new ≡ leaves room_written (write_call fields.now room.old) room.old }
     ensures written_after { written.new ≡ leaves size_written (write_call fields.now room.old) written.old }

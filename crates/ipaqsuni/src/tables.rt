@@ -26,24 +26,21 @@ fn number_of(answer: Answer) -> u32
     }
 }
 
-#[unsafe(no_mangle)]
-pub extern "C" fn ipaqsuni_cold_start(cells: &mut [u16], ports: u32) -> u32
+pub fn ipaqsuni_cold_start(cells: &mut [u16], ports: u32) -> u32
     ensures value { result ≡ answer_number (start_on cells.old ports).answer }
     ensures cells_after { cells.new ≡ cells_cold (start_on cells.old ports) cells.old }
 {
     number_of(calls::cold_start(cells, ports as u64))
 }
 
-#[unsafe(no_mangle)]
-pub extern "C" fn ipaqsuni_write_control(cells: &mut [u16], port: u32, word: u32) -> u32
+pub fn ipaqsuni_write_control(cells: &mut [u16], port: u32, word: u32) -> u32
     ensures value { result ≡ answer_number (control_on cells.old port word).answer }
     ensures cells_after { cells.new ≡ cells_told (control_on cells.old port word) cells.old }
 {
     number_of(calls::write_control(cells, port as u64, word as u64))
 }
 
-#[unsafe(no_mangle)]
-pub extern "C" fn ipaqsuni_read_status(cells: &mut [u16], port: u32, status: &mut u32) -> u32
+pub fn ipaqsuni_read_status(cells: &mut [u16], port: u32, status: &mut u32) -> u32
     ensures value { result ≡ status_number (status_on cells.old port).answer }
     ensures cells_after { cells.new ≡ cells_read (status_on cells.old port) cells.old }
     ensures status_after { status.new ≡ word_left (status_on cells.old port).answer status.old }
@@ -57,16 +54,14 @@ pub extern "C" fn ipaqsuni_read_status(cells: &mut [u16], port: u32, status: &mu
     }
 }
 
-#[unsafe(no_mangle)]
-pub extern "C" fn ipaqsuni_request(cells: &mut [u16], port: u32, value: u32) -> u32
+pub fn ipaqsuni_request(cells: &mut [u16], port: u32, value: u32) -> u32
     ensures value { result ≡ answer_number (request_on cells.old port value).answer }
     ensures cells_after { cells.new ≡ cells_told (request_on cells.old port value) cells.old }
 {
     number_of(request::request(cells, port as u64, value as u64))
 }
 
-#[unsafe(no_mangle)]
-pub extern "C" fn ipaqsuni_tick(
+pub fn ipaqsuni_tick(
     cells: &mut [u16],
     samples: &[u8],
     supply: u32,
@@ -92,8 +87,7 @@ pub extern "C" fn ipaqsuni_tick(
 }
 
 // What no image holds is refused before a room of another length.
-#[unsafe(no_mangle)]
-pub extern "C" fn ipaqsuni_save(cells: &[u16], image: &mut [u8]) -> u32
+pub fn ipaqsuni_save(cells: &[u16], image: &mut [u8]) -> u32
     ensures value { result ≡ save_number cells.now image.old }
     ensures image_after { image.new ≡ room_after cells.now image.old }
 {
@@ -107,8 +101,7 @@ pub extern "C" fn ipaqsuni_save(cells: &[u16], image: &mut [u8]) -> u32
     }
 }
 
-#[unsafe(no_mangle)]
-pub extern "C" fn ipaqsuni_restore(cells: &mut [u16], image: &[u8]) -> u32
+pub fn ipaqsuni_restore(cells: &mut [u16], image: &[u8]) -> u32
     ensures value { result ≡ restore_number image.now cells.old }
     ensures cells_after { cells.new ≡ cells_restored image.now cells.old }
 {
