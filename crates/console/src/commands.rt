@@ -10,7 +10,7 @@ use text::{end, hex};
 use writer::Written;
 
 // How many cells are held after a line, and where the next answer goes.
-#[derive(Drop)]
+#[derive(Clone, Copy)]
 pub struct HeldCells {
     pub many: usize,
     pub at: usize,

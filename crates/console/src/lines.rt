@@ -1,13 +1,14 @@
 // Lines out of standard input, through a buffer.
+use std::io::{Read, Stdin};
 
 // What is read and not yet taken: the bytes of the buffer from `at` to `end`.
-#[derive(Drop)]
+#[derive(Clone, Copy)]
 pub struct Source {
     pub at: usize,
     pub end: usize,
 }
 
-#[derive(Drop)]
+#[derive(Clone, Copy)]
 pub struct Line {
     pub source: Source,
     // How many bytes of the line its room holds.
@@ -19,13 +20,16 @@ pub struct Line {
 // Bytes that a line is read for: every loop has to end, and no line comes near so many.
 const BUDGET: u64 = 1_099_511_627_776;
 
-// The buffer is read into anew once it is all taken. If it is all taken still, the input has ended.
-fn filled(buffer: &mut [u8], source: Source) -> Source {
+// The buffer is read into anew once it is all taken. If it is all taken still, the input has ended, or cannot be read any more.
+fn filled(stdin: Stdin, buffer: &mut [u8], source: Source) -> Source {
     if source.at < source.end {
         return source;
     }
-    let got = libc::read(0, buffer);
-    let end = io::count(got, buffer);
+    let mut input = stdin;
+    let end = match input.read(buffer) {
+        Ok(count) => count,
+        Err(_) => 0,
+    };
     Source { at: 0, end }
 }
 
@@ -60,12 +64,12 @@ fn last(source: Source, length: usize) -> Line {
     }
 }
 
-pub fn next_line(buffer: &mut [u8], line: &mut [u8], source: Source) -> Line {
+pub fn next_line(stdin: Stdin, buffer: &mut [u8], line: &mut [u8], source: Source) -> Line {
     let mut s = source;
     let mut length: usize = 0;
     let mut left = BUDGET;
     while 0 < left {
-        s = filled(buffer, s);
+        s = filled(stdin, buffer, s);
         if s.end <= s.at {
             return last(s, length);
         }

@@ -11,6 +11,7 @@ use commands::HeldCells;
 use lines::Source;
 use parts::front;
 use sizes::CELLS;
+use std::io::Stdin;
 
 // A line over 8,192 bytes is a bad line: one byte more than that is kept, to tell.
 const LONGEST: usize = 8_192;
@@ -50,14 +51,21 @@ fn flushed(source: Source, out: &[u8], at: usize) -> usize {
 }
 
 // Before the first cold start the table is 728 cells, all 0: it has no ports.
-fn run(input: &mut [u8], line: &mut [u8], data: &mut [u8], out: &mut [u8], room: &mut [u16]) {
+fn run(
+    stdin: Stdin,
+    input: &mut [u8],
+    line: &mut [u8],
+    data: &mut [u8],
+    out: &mut [u8],
+    room: &mut [u16],
+) {
     let mut many: usize = CELLS;
     let mut source = Source { at: 0, end: 0 };
     let mut at: usize = 0;
     let mut left = BUDGET;
     while 0 < left {
         at = flushed(source, out, at);
-        let taken = lines::next_line(input, line, source);
+        let taken = lines::next_line(stdin, input, line, source);
         if taken.ended {
             return;
         }
@@ -83,11 +91,18 @@ fn line_room() -> [u8; 8_193]
     [0; 8_193]
 }
 
-fn main() {
+fn main(rt: HostRuntime) {
     let mut input = io::large_buffer();
     let mut line = line_room();
     let mut data = io::buffer();
     let mut out = io::large_buffer();
     let mut room = cell_room();
-    run(&mut input, &mut line, &mut data, &mut out, &mut room);
+    run(
+        rt.stdin(),
+        &mut input,
+        &mut line,
+        &mut data,
+        &mut out,
+        &mut room,
+    );
 }

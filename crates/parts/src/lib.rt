@@ -117,7 +117,7 @@ pub fn number_of(word: &[u8]) -> Number
 }
 
 // The numbers of a line after its command, if there are just so many and each is one.
-#[derive(Drop)]
+#[derive(Clone, Copy)]
 pub struct Numbers {
     pub n: [u64; 9],
     pub ok: bool,
@@ -196,7 +196,7 @@ fn fill(word: &[u8], room: &mut [u8])
     }
 }
 
-#[derive(Drop)]
+#[derive(Clone, Copy)]
 pub enum Bytes {
     // So many, from the room's start on.
     Are(usize),

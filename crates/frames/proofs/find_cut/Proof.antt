@@ -6,10 +6,10 @@ use borrow.Author.Rules.{rules}
 use Rattle.frames.proofs.find_cut.Statement.{statement}
 use Rattle.frames.proofs.find_cut.Tie as tie
 
-abbrev invariant_loop : tie.invariant_loop
+abbrev invariant_loop : tie.invariant-loop-n
 invariant_loop pdu n₀ n = n ≤ length pdu
 
-abbrev decreases_loop : tie.decreases_loop
+abbrev decreases_loop : tie.decreases-loop-n
 decreases_loop pdu n₀ n = length pdu - n
 
 pub find_cut_spec : {M : Type 1} → statement M

@@ -5,10 +5,10 @@ use borrow.Author.Rules.{rules}
 use Rattle.frames.proofs.show_room.Statement.{statement}
 use Rattle.frames.proofs.show_room.Tie as tie
 
-abbrev invariant_loop : tie.invariant_loop
+abbrev invariant_loop : tie.invariant-loop-i
 invariant_loop room i₀ i = i ≤ 16
 
-abbrev decreases_loop : tie.decreases_loop
+abbrev decreases_loop : tie.decreases-loop-i
 decreases_loop room i₀ i = 16 - i
 
 pub show_room_spec : {M : Type 1} → statement M

@@ -33,7 +33,7 @@ count_spec =
     let l = c.args.line.now in
     let i = c.loop-i.i in
     elim c.if-line-i-eq32.branch [
-      then-line-i-eq32 w ↦ (omega arith, omega arith, omega (arith, more_words l i c.loop-i-test.true w.if-line-i-eq32.true))
+      | then-line-i-eq32 w ↦ (omega arith, omega arith, omega (arith, more_words l i c.loop-i-test.true w.if-line-i-eq32.true))
       | else-line-i-eq32 w ↦ (omega arith, omega arith, omega (arith, same_words l i c.loop-i-test.true w.if-line-i-eq32.false))
     ])
     (λ c.

@@ -39,7 +39,7 @@ start_spec =
     let h = c.loop-i-test.true in
     let z = c.if-left-eq0.false in
     elim c.if-line-i-eq32.branch [
-      then-line-i-eq32 w ↦ (omega arith, ap (word_at (drop (at.i + 1) l)) w.left-is ∙ sym (seek_space l at.i h at.left z w.if-line-i-eq32.true) ∙ at.invariant.1)
+      | then-line-i-eq32 w ↦ (omega arith, ap (word_at (drop (at.i + 1) l)) w.left-is ∙ sym (seek_space l at.i h at.left z w.if-line-i-eq32.true) ∙ at.invariant.1)
       | else-line-i-eq32 w ↦ (omega arith, ap (word_at (drop (at.i + 1) l)) w.left-is ∙ sym (seek_other l at.i h at.left z w.if-line-i-eq32.false) ∙ at.invariant.1)
     ])
     (λ c.

@@ -8,10 +8,10 @@ use native.Mathlib.Omega.{arith}
 use Rattle.console.proofs.commands.fill.Statement.{statement}
 use Rattle.console.proofs.commands.fill.Tie as tie
 
-abbrev invariant_loop : tie.invariant_loop
+abbrev invariant_loop : tie.invariant-loop-i
 invariant_loop bytes room₀ n i₀ room i = length room ≡ length room₀
 
-abbrev decreases_loop : tie.decreases_loop
+abbrev decreases_loop : tie.decreases-loop-i
 decreases_loop bytes room₀ n i₀ room i = length bytes / 2 - i
 
 pub fill_spec : {M : Type 1} → statement M
