@@ -7,10 +7,10 @@ use Rattle.demands.proofs.Unbroken.{of_came}
 use Rattle.demands.proofs.run.Statement.{statement}
 use Rattle.demands.proofs.run.Tie as tie
 
-abbrev invariant_loop : tie.invariant_loop
+abbrev invariant_loop : tie.invariant-loop-left
 invariant_loop space₀ cells₀ before₀ counts₀ many₀ left₀ space cells before counts many left = (length space ≡ length space₀) × (length cells ≡ length cells₀) × (length before ≡ length before₀)
 
-abbrev decreases_loop : tie.decreases_loop
+abbrev decreases_loop : tie.decreases-loop-left
 decreases_loop space₀ cells₀ before₀ counts₀ many₀ left₀ space cells before counts many left = left
 
 pub run_spec : {M : Type 1} → statement M

@@ -7,10 +7,10 @@ use mathlib.Core.Path.{◌≡◌}
 use Rattle.demands.proofs.calls_on.copy_cells.Statement.{statement}
 use Rattle.demands.proofs.calls_on.copy_cells.Tie as tie
 
-abbrev invariant_loop : tie.invariant_loop
+abbrev invariant_loop : tie.invariant-loop-k
 invariant_loop from to₀ k₀ to k = length to ≡ length to₀
 
-abbrev decreases_loop : tie.decreases_loop
+abbrev decreases_loop : tie.decreases-loop-k
 decreases_loop from to₀ k₀ to k = length from - k
 
 pub copy_cells_spec : {M : Type 1} → statement M

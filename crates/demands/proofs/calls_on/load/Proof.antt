@@ -7,10 +7,10 @@ use mathlib.Core.Path.{◌≡◌}
 use Rattle.demands.proofs.calls_on.load.Statement.{statement}
 use Rattle.demands.proofs.calls_on.load.Tie as tie
 
-abbrev invariant_loop : tie.invariant_loop
+abbrev invariant_loop : tie.invariant-loop-i
 invariant_loop body room₀ n i₀ room i = length room ≡ length room₀
 
-abbrev decreases_loop : tie.decreases_loop
+abbrev decreases_loop : tie.decreases-loop-i
 decreases_loop body room₀ n i₀ room i = length body / 2 - i
 
 pub load_spec : {M : Type 1} → statement M
