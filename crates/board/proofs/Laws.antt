@@ -10,9 +10,9 @@ use Rattle.lists.specs.Entries.{some}
 use Rattle.power.specs.Power.{zero_power}
 use Rattle.class.specs.Class as access
 use Rattle.class.proofs.Laws as accessLaws
-use Rattle.class.proofs.Laws.{atMostClass}
 use Rattle.four_pair.specs.FourPair as fourPair
 use Rattle.four_pair.proofs.Laws as fourPairLaws
+use Rattle.four_pair.proofs.Laws.{at_most_class, four_is_four}
 use Rattle.board.specs.Boards.{class_shown, most_class, budget_of, forced_claim, is_demand, level_of, demand_for}
 use Rattle.board.specs.declared.Board.{Board}
 use Rattle.board.specs.declared.Board.TheVariants.{Access, FourPair}
@@ -38,8 +38,8 @@ grant_is_demand Access v k = accessLaws.budget_is_demand _
 grant_is_demand FourPair v k = le-leb _ 600 (fourPairLaws.demand_for_at_most v k)
 
 -- a class is at most the board's highest, if there is one
-pub shown_at_most : (board : Board) (c1 c2 c3 : ℕ) → atMostClass (most_class board) (class_shown board c1 c2 c3).shown ≡ true
-shown_at_most Access c1 c2 c3 = accessLaws.class_of_two_at_most_four c1 c2
+pub shown_at_most : (board : Board) (c1 c2 c3 : ℕ) → at_most_class (most_class board) (class_shown board c1 c2 c3).shown ≡ true
+shown_at_most Access c1 c2 c3 = four_is_four (access.class_of_two c1 c2).shown (accessLaws.class_of_two_at_most_four c1 c2)
 shown_at_most FourPair c1 c2 c3 = fourPairLaws.class_of_three_at_most_six c1 c2 c3
 
 -- and fits a status word's three bits, on every board

@@ -12,7 +12,7 @@ use Rattle.lists.specs.Entries.{all}
 use Rattle.lists.proofs.Entries.{entry_or}
 use Rattle.lists.proofs.Tests.{choice}
 use Rattle.class.specs.Class.{class_of, is_four, alone, class_of_two}
-use Rattle.class.proofs.Laws.{atMostClass, class_of_two_at_most_four}
+use Rattle.class.proofs.Laws.{at_most_four, class_of_two_at_most_four}
 use Rattle.class.specs.declared.Class.{Class}
 use Rattle.class.specs.declared.Class.TheVariants.{Is, Failure}
 use Rattle.class.specs.declared.ClassReading.{ClassReading}
@@ -58,16 +58,27 @@ pub demand_for_is_demand : (value class : ℕ) → is_demand (demand_for value c
 unfolding is_demand
 demand_for_is_demand value class = le-leb (demand_for value class).0 600 (demand_for_at_most value class)
 
+-- a class is at most so much, if there is one
+abbrev pub at_most_class : ℕ → Events → Bool
+at_most_class most (Shows k) = leb k most
+at_most_class most OverCurrent = true
+at_most_class most Disagree = true
+
+pub four_is_four : (e : Events) → at_most_four e ≡ true → at_most_class 4 e ≡ true
+four_is_four (Shows k) h = h
+four_is_four OverCurrent h = h
+four_is_four Disagree h = h
+
 -- a class is at most 6, if there is one
-four_is_six : (e : Events) → atMostClass 4 e ≡ true → atMostClass most_class e ≡ true
+four_is_six : (e : Events) → at_most_four e ≡ true → at_most_class most_class e ≡ true
 four_is_six (Shows k) h = le-leb k 6 (omega (arith, leb-true k 4 h))
 four_is_six OverCurrent h = refl
 four_is_six Disagree h = refl
 
 abbrev SixOrLess : Events → Type 0
-SixOrLess e = atMostClass most_class e ≡ true
+SixOrLess e = at_most_class most_class e ≡ true
 
-third_at_most_six : (class : Class) → atMostClass most_class (third class) ≡ true
+third_at_most_six : (class : Class) → at_most_class most_class (third class) ≡ true
 unfolding third
 third_at_most_six (Is k) =
     choice SixOrLess (eqb k 0) _ _ refl
@@ -76,13 +87,13 @@ third_at_most_six (Is k) =
     refl))
 third_at_most_six Failure = refl
 
-pub class_of_three_at_most_six : (c1 c2 c3 : ℕ) → atMostClass most_class (class_of_three c1 c2 c3).shown ≡ true
+pub class_of_three_at_most_six : (c1 c2 c3 : ℕ) → at_most_class most_class (class_of_three c1 c2 c3).shown ≡ true
 unfolding class_of_three
 class_of_three_at_most_six c1 c2 c3 =
-    choice (λ (r : ClassReading). atMostClass most_class r.shown ≡ true) (is_four (class_of c1) && is_four (class_of c2)) _ _
+    choice (λ (r : ClassReading). at_most_class most_class r.shown ≡ true) (is_four (class_of c1) && is_four (class_of c2)) _ _
     (third_at_most_six (class_of c3))
     (four_is_six (class_of_two c1 c2).shown (class_of_two_at_most_four c1 c2))
 
 -- "classes 0 to 6 are well-made here"
 pub three_class : (c1 c2 c3 k : ℕ) → (class_of_three c1 c2 c3).shown ≡ Shows k → k ≤ most_class
-three_class c1 c2 c3 k e = leb-true k most_class (sym (ap (atMostClass most_class) e) ∙ class_of_three_at_most_six c1 c2 c3)
+three_class c1 c2 c3 k e = leb-true k most_class (sym (ap (at_most_class most_class) e) ∙ class_of_three_at_most_six c1 c2 c3)

@@ -13,5 +13,5 @@ budget_spec =
     (λ c κs. search rules)
     (λ c. search rules)
     (λ c κs. search rules)
-    (λ c. simp (c.before.enum_told.given.1, c.budget.ensures))
-    (λ c. simp (c.before.enum-told2.given.1, c.budget2.ensures)))
+    (λ c. simp (c.in-Access.is, c.budget.ensures))
+    (λ c. simp (c.in-FourPair.is, c.budget-in-FourPair.ensures)))

@@ -13,5 +13,5 @@ class_shown_spec =
     (λ c κs. search rules)
     (λ c. search rules)
     (λ c κs. search rules)
-    (λ c. simp (c.before.enum_told.given.1, c.class_of_two.ensures))
-    (λ c. simp (c.before.enum-told2.given.1, c.class_of_three.ensures)))
+    (λ c. simp (c.in-Access.is, c.class_of_two.ensures))
+    (λ c. simp (c.in-FourPair.is, c.class_of_three.ensures)))

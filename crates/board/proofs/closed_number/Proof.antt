@@ -12,7 +12,7 @@ closed_number_spec =
     tie.close
     (tie.spec
     (λ c. search rules)
-    (λ c. let s = c.before.before in omega (arith, ones-le 64 s.args.a s.ranges.a.fits, ones-le 64 s.args.b s.ranges.b.fits))
+    (λ c. let s = c in omega (arith, ones-le 64 s.args.a s.ranges.a.fits, ones-le 64 s.args.b s.ranges.b.fits))
     (λ c. search rules)
-    (λ c. simp c.enum_told.given.1)
-    (λ c. simp c.enum-told2.given.1))
+    (λ c. simp c.in-Access.is)
+    (λ c. simp c.in-FourPair.is))

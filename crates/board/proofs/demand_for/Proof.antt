@@ -13,5 +13,5 @@ demand_for_spec =
     (λ c κs. search rules)
     (λ c. search rules)
     (λ c κs. search rules)
-    (λ c. simp (c.before.enum_told.given.1, c.level_of.ensures))
-    (λ c. simp (c.before.enum-told2.given.1, c.demand_for.ensures)))
+    (λ c. simp (c.in-Access.is, c.level_of.ensures))
+    (λ c. simp (c.in-FourPair.is, c.demand_for.ensures)))

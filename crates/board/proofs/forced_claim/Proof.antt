@@ -6,4 +6,4 @@ use Rattle.board.proofs.forced_claim.Statement.{statement}
 use Rattle.board.proofs.forced_claim.Tie as tie
 
 pub forced_claim_spec : {M : Type 1} → statement M
-forced_claim_spec = tie.close (tie.spec (λ c. search rules) (λ c. search rules) (λ c. simp c.enum_told.given.1) (λ c. simp c.enum-told2.given.1))
+forced_claim_spec = tie.close (tie.spec (λ c. search rules) (λ c. search rules) (λ c. simp c.in-Access.is) (λ c. simp c.in-FourPair.is))

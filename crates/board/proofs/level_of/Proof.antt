@@ -12,10 +12,10 @@ level_of_spec =
     tie.close
     (tie.spec
     (λ c κs. search rules)
-    (λ c. simp (c.budget.ensures, le-leb _ _ c.before.if1.true))
+    (λ c. simp (c.budget.ensures, le-leb _ _ c.if-value-le38.true))
     (λ c κs. search rules)
-    (λ c. simp (c.budget2.ensures, lt-leb _ _ c.before.before.if1.false, le-leb _ _ c.before.if2.true))
+    (λ c. simp (c.budget-then-value-le64.ensures, lt-leb _ _ c.if-value-le38.false, le-leb _ _ c.if-value-le64.true))
     (λ c κs. search rules)
-    (λ c. simp (c.budget3.ensures, lt-leb _ _ c.before.before.before.if1.false, lt-leb _ _ c.before.before.if2.false, le-leb _ _ c.before.if3.true))
+    (λ c. simp (c.budget-then-value-le129.ensures, lt-leb _ _ c.if-value-le38.false, lt-leb _ _ c.if-value-le64.false, le-leb _ _ c.if-value-le129.true))
     (λ c κs. search rules)
-    (λ c. simp (c.budget4.ensures, lt-leb _ _ c.before.before.before.if1.false, lt-leb _ _ c.before.before.if2.false, lt-leb _ _ c.before.if3.false)))
+    (λ c. simp (c.budget-2.ensures, lt-leb _ _ c.if-value-le38.false, lt-leb _ _ c.if-value-le64.false, lt-leb _ _ c.if-value-le129.false)))

@@ -13,5 +13,5 @@ over_class_spec =
     (λ c κs. search rules)
     (λ c. search rules)
     (λ c κs. search rules)
-    (λ c. simp (c.before.enum_told.given.1, c.over_level.ensures))
-    (λ c. simp (c.before.enum-told2.given.1, c.over_class_lem.ensures)))
+    (λ c. simp (c.in-Access.is, c.over_level.ensures))
+    (λ c. simp (c.in-FourPair.is, c.over_class.ensures)))

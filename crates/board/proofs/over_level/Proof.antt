@@ -6,7 +6,7 @@ use native.Mathlib.Omega.{arith}
 use borrow.Author.Rules.{rules}
 use borrow.Author.Tests.{lt-ltb, le-ltb}
 use Rattle.power.specs.Power.{at_most}
-use Rattle.power.proofs.PowerLaws.{over_is}
+use Rattle.board.proofs.Powers.{over_is}
 use Rattle.board.specs.Boards.{over_level}
 use Rattle.board.proofs.over_level.Statement.{statement}
 use Rattle.board.proofs.over_level.Tie as tie
@@ -16,10 +16,10 @@ unfolding over_level
 over_level_spec =
     tie.close
     (tie.spec
-    (λ c. simp (lt-ltb 255 c.before.args.value (omega (arith, c.if1.true))))
+    (λ c. simp (lt-ltb 255 c.args.value (omega (arith, c.if-value-gt255.true))))
     (λ c κs. search rules)
     (λ c κs. search rules)
     (λ c κs. search rules)
     (λ c.
-    simp (le-ltb 255 c.before.before.before.before.args.value (omega (arith, c.before.before.before.if1.false)))
-    (ap not (c.at_most_lem.ensures ∙ ap₂ at_most c.before.before.level_of.ensures c.before.budget.ensures) ∙ sym (over_is _ _))))
+    simp (le-ltb 255 c.args.value (omega (arith, c.if-value-gt255.false)))
+    (ap not (c.at_most.ensures ∙ ap₂ at_most c.level_of.ensures c.budget.ensures) ∙ sym (over_is _ _))))

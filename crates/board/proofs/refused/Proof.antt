@@ -28,5 +28,5 @@ refused_spec =
     (λ c κs. search rules)
     (λ c. search rules)
     (λ c κs. search rules)
-    (λ c. simp (c.before.enum_told.given.1, c.by_mask.ensures, one_told))
-    (λ c. simp (c.before.enum-told2.given.1, c.by_mask2.ensures, both_told)))
+    (λ c. simp (c.in-Access.is, c.by_mask.ensures, one_told))
+    (λ c. simp (c.in-FourPair.is, c.by_mask-in-FourPair.ensures, both_told)))

@@ -12,10 +12,10 @@ use Rattle.four_pair.proofs.class_of_three.Statement.{statement}
 use Rattle.four_pair.proofs.class_of_three.Tie as tie
 
 -- the test that the code makes is that of two 4s
-fours : (c : tie.After-shows-four) (t : Bool) → c.shows_four.result ≡ t
-    → (is_four (class_of c.before.before.args.c1) && is_four (class_of c.before.before.args.c2)) ≡ t
+fours : (c : tie.After-shows_four) (t : Bool) → c.shows_four.result ≡ t
+    → (is_four (class_of c.args.c1) && is_four (class_of c.args.c2)) ≡ t
 fours c t e =
-    sym (two_fours _ _) ∙ ap (λ (r : ClassReading). shows_four r.shown) (sym c.before.class_of_two.ensures) ∙ sym c.shows_four.ensures ∙ e
+    sym (two_fours _ _) ∙ ap (λ (r : ClassReading). shows_four r.shown) (sym c.class_of_two-two.ensures) ∙ sym c.shows_four.ensures ∙ e
 
 pub class_of_three_spec : {M : Type 1} → statement M
 unfolding class_of_three
@@ -24,7 +24,7 @@ class_of_three_spec =
     (tie.spec
     (λ c κs. search rules)
     (λ c κs. search rules)
-    (λ c. simp (fours c.before _ (not-true _ c.if1.true), c.before.before.class_of_two.ensures))
+    (λ c. simp (fours c.before _ c.if-not-shows_four.true, c.class_of_two-two.ensures))
     (λ c κs. search rules)
     (λ c κs. search rules)
-    (λ c. simp (fours c.before.before.before _ (not-false _ c.before.before.if1.false), c.third.ensures, c.before.class_of.ensures)))
+    (λ c. simp (fours c.before.before.before _ c.if-not-shows_four.false, c.third.ensures, c.class_of.ensures)))

@@ -18,8 +18,7 @@ third_spec =
     (λ c. search rules)
     (λ c. search rules)
     (λ c.
-    let none = c.match2.rest in
-    let told = c.before.before.class.given in
-    let k : ℕ = told.0.0 in
-    simp (told.1, ne_eqb k 0 none.0.0.1, ne_eqb k 1 none.0.1, ne_eqb k 4 none.1))
+    let none = c.in_default.in_default-own.rest in
+    let k : ℕ = c.in-Is.k in
+    simp (c.in-Is.is, ne_eqb k 0 none.0.0.1, ne_eqb k 1 none.0.1, ne_eqb k 4 none.1))
     (λ c. search rules))
