@@ -1,2 +1,3 @@
 pub mod Boards
 pub mod ByMask
+pub mod Unique
