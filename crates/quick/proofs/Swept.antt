@@ -1,4 +1,4 @@
--- What the pass leaves in the cells of a well_made_lem table: a port whose move only counts has made it, and one that is marked is as it was.
+-- What the pass leaves in the cells of a well-made table: a port whose move only counts has made it, and one that is marked is as it was.
 -- Assumes nothing.
 use Rattle.std.proofs.Common.{◌≡◌, ℕ, zero, suc, ◌+◌, ◌%◌, ◌<◌, ◌≤◌, Bool, true, false, cond, not, eqb, List, length, get_or, sym, refl, ap, ◌∙◌, true≢false, le_refl, add-one, arith}
 use mathlib.Core.Bool.{false≢true}
