@@ -111,8 +111,11 @@ class Code:
             k += 1
 
     def imported(self, source, first, last):
-        names = [t.text for t in source.tokens[first:last] if t.kind == "name"]
-        if names[0] == "use" and len(names) > 2:
+        brace = source.find(first, last, "{")
+        names = [t.text for t in source.tokens[first:brace] if t.kind == "name"]
+        if names[0] == "use" and brace < last:
+            source.imports.update({t.text: names[-1] for t in source.tokens[brace:last] if t.kind == "name"})
+        elif names[0] == "use" and len(names) > 2:
             source.imports[names[-1]] = names[-2]
 
     def declared(self, source, k, is_enum):
@@ -155,7 +158,8 @@ class Code:
                 stop = source.find(brace, len(source.tokens), "{", *CLAUSES)
                 answer, brace = source.type_in(brace + 1, stop), stop
             elif source.tokens[brace].text in CLAUSES:
-                brace = source.partner[brace + 1] + 1
+                # (a clause may have a name before its brace)
+                brace = source.partner[source.find(brace, len(source.tokens), "{")] + 1
             else:
                 brace += 1
         found = Function(source.tokens[k + 1].text, params, answer, brace + 1, source.partner[brace], home, source)
