@@ -31,21 +31,7 @@ is_power_spec =
     (λ c κs. search rules)
     (λ c. simp (← c.type_at.ensures, eq-eqb _ 127 c.if-type_at-ne127.false, ← c.length_at.ensures.0, lt-leb 4 _ c.if-length_at-lt4.true))
     (λ c. omega (arith, inside c.before.before))
-    (λ c.
-    simp (
-      ← c.type_at.ensures,
-      eq-eqb _ 127 c.if-type_at-ne127.false,
-      ← c.length_at.ensures.0,
-      le-leb 4 _ c.if-length_at-lt4.false,
-      cut c,
-    ))
+    (λ c. simp (← c.type_at.ensures, eq-eqb _ 127 c.if-type_at-ne127.false, ← c.length_at.ensures.0, le-leb 4 _ c.if-length_at-lt4.false, cut c))
     (λ c. omega arith)
     (λ c κs. omega arith)
-    (λ c.
-    simp (
-      ← c.type_at.ensures,
-      eq-eqb _ 127 c.if-type_at-ne127.false,
-      ← c.length_at.ensures.0,
-      le-leb 4 _ c.if-length_at-lt4.false,
-      c.fixed_at.ensures,
-    )))
+    (λ c. simp (← c.type_at.ensures, eq-eqb _ 127 c.if-type_at-ne127.false, ← c.length_at.ensures.0, le-leb 4 _ c.if-length_at-lt4.false, c.fixed_at.ensures)))

@@ -17,31 +17,9 @@ step_at_spec =
     (λ c. search rules)
     (λ c. simp (lt-leb _ _ c.if-pdu-at.false, lt-ltb _ _ c.if-pdu-at-lt2.true))
     (λ c κs. omega arith)
-    (λ c.
-    simp (
-      lt-leb _ _ c.if-pdu-at.false,
-      le-ltb _ _ c.if-pdu-at-lt2.false,
-      ← c.type_at.ensures,
-      eq-eqb _ 0 c.if-type_at-eq0.true,
-    ))
+    (λ c. simp (lt-leb _ _ c.if-pdu-at.false, le-ltb _ _ c.if-pdu-at-lt2.false, ← c.type_at.ensures, eq-eqb _ 0 c.if-type_at-eq0.true))
     (λ c κs. omega arith)
     (λ c. search rules)
     (λ c. search rules)
-    (λ c.
-    simp (
-      lt-leb _ _ c.if-pdu-at.false,
-      le-ltb _ _ c.if-pdu-at-lt2.false,
-      ← c.type_at.ensures,
-      ne_eqb _ 0 c.if-type_at-eq0.false,
-      ← c.length_at-size.ensures.0,
-      lt-ltb _ _ c.if-pdu-at-2.true,
-    ))
-    (λ c.
-    simp (
-      lt-leb _ _ c.if-pdu-at.false,
-      le-ltb _ _ c.if-pdu-at-lt2.false,
-      ← c.type_at.ensures,
-      ne_eqb _ 0 c.if-type_at-eq0.false,
-      ← c.length_at-size.ensures.0,
-      le-ltb _ _ c.if-pdu-at-2.false,
-    )))
+    (λ c. simp (lt-leb _ _ c.if-pdu-at.false, le-ltb _ _ c.if-pdu-at-lt2.false, ← c.type_at.ensures, ne_eqb _ 0 c.if-type_at-eq0.false, ← c.length_at-size.ensures.0, lt-ltb _ _ c.if-pdu-at-2.true))
+    (λ c. simp (lt-leb _ _ c.if-pdu-at.false, le-ltb _ _ c.if-pdu-at-lt2.false, ← c.type_at.ensures, ne_eqb _ 0 c.if-type_at-eq0.false, ← c.length_at-size.ensures.0, le-ltb _ _ c.if-pdu-at-2.false)))
