@@ -13,7 +13,7 @@ use Rattle.class.proofs.Laws as accessLaws
 use Rattle.four_pair.specs.FourPair as fourPair
 use Rattle.four_pair.proofs.Laws as fourPairLaws
 use Rattle.four_pair.proofs.Laws.{at_most_class, four_is_four}
-use Rattle.board.specs.Boards.{class_shown, most_class, budget_of, forced_claim, is_demand, level_of, demand_for}
+use Rattle.board.specs.Boards.{class_shown, most_class, budget_of, forced_claim, is_demand, demand_for}
 use Rattle.board.specs.declared.Board.{Board}
 use Rattle.board.specs.declared.Board.TheVariants.{Access, FourPair}
 
@@ -33,7 +33,7 @@ budget_is_demand Access k = accessLaws.budget_is_demand k
 budget_is_demand FourPair k = le-leb _ 600 (fourPairLaws.budget_at_most k)
 
 pub grant_is_demand : (board : Board) (value class : ℕ) → is_demand board (demand_for board value class) ≡ true
-unfolding level_of fourPair.is_demand
+unfolding access.level_of fourPair.is_demand
 grant_is_demand Access v k = accessLaws.budget_is_demand _
 grant_is_demand FourPair v k = le-leb _ 600 (fourPairLaws.demand_for_at_most v k)
 

@@ -1,5 +1,4 @@
 pub mod Blocks
 pub mod Laws
-pub mod Powers
 pub mod Unique
 pub mod Words

@@ -1,22 +1,31 @@
--- What follows of the words that a board refuses, and how a mask tells them.
+-- What follows of the words that a board refuses, and how they are told.
 -- Assumes nothing.
-use Prim.Native.Nat.{ℕ, ◌<◌, ◌≤◌}
+use Prim.Native.Nat.{ℕ, ◌<◌}
 use mathlib.Core.Path.{◌≡◌, refl, sym}
 use mathlib.Core.Bool.{Bool, true, false, ◌||◌, not, false≢true}
-use mathlib.Core.Logic.{⊎_elim}
 use lib.Dec.{eqb, leb}
 use borrow.Author.Tests.{le-leb, leb-false}
 use Rattle.lists.specs.Bits.{field, above}
 use Rattle.lists.specs.Places.{tabulate}
-use Rattle.lists.proofs.Places.{side, tabulate_at}
+use Rattle.control.specs.ByMask.{limit, said_by}
+use Rattle.control.specs.Control as control
+use Rattle.control.proofs.Masks.{said_by_mask}
 use Rattle.board.specs.Boards.{is_pair, refused}
-use Rattle.board.specs.ByMask.{limit, said_by}
 use Rattle.board.specs.declared.Board.{Board}
+use Rattle.board.specs.declared.Board.TheVariants.{Access, FourPair}
 
--- a mask that says the same at each word below 64 says the same of every word
-pub said_by_mask : (board : Board) (mask : ℕ) → tabulate limit (said_by mask) ≡ tabulate limit (refused board) → (word : ℕ) → said_by mask word ≡ refused board word
-unfolding refused said_by above
-said_by_mask board mask e word = ⊎_elim (tabulate_at limit (said_by mask) (refused board) e word) (λ h. simp (le-leb limit word h)) (side word limit)
+-- the access switch's words are those of document 01
+pub access_told : (word : ℕ) → control.refused word ≡ refused Access word
+unfolding refused control.refused
+access_told word = refl
+
+-- the mask of the words below 64 that the four-pair board refuses
+abbrev pub not_both : ℕ
+not_both = 0x8fff8fff8fff8fff
+
+pub both_told : (word : ℕ) → said_by not_both word ≡ refused FourPair word
+unfolding refused said_by above field tabulate
+both_told = said_by_mask not_both (refused FourPair) (λ w h. simp (le-leb limit w h)) refl
 
 -- a word that a write takes has nothing above bit 5
 pub taken_small : (board : Board) (word : ℕ) → refused board word ≡ false → word < 64

@@ -1,9 +1,9 @@
 -- What differs between the boards that stand on this core: document 01's words of the access switch, and request [13]'s of the four-pair
 -- model. Whatever is not here knows no board.
-use Rattle.std.specs.Prelude.{ℕ, ◌+◌, Bool, cond, not, ◌||◌, eqb, leb, ltb}
+use Rattle.std.specs.Prelude.{ℕ, ◌+◌, Bool, not, ◌||◌, eqb}
 use Rattle.std.specs.Int.Count.{ones}
 use Rattle.lists.specs.Bits.{field, above}
-use Rattle.power.specs.Power.{forced, over}
+use Rattle.power.specs.Power.{forced}
 use Rattle.power.specs.declared.Power.{Power}
 use Rattle.class.specs.Class as access
 use Rattle.class.specs.declared.ClassReading.{ClassReading}
@@ -56,22 +56,14 @@ is_pair FourPair pair = eqb pair 3
 unfoldable pub refused : Board → ℕ → Bool
 refused board word = above 6 word || (eqb (field 0 2 word) 3 || not (is_pair board (field 2 2 word)))
 
--- "value 1..38 means demand 40, ..64 means 70, ..129 means 154, ..255 means 300": the budgets of classes 1 to 4
-unfoldable pub level_of : ℕ → Power
-level_of v = access.budget_of (cond (leb v 38) 1 (cond (leb v 64) 2 (cond (leb v 129) 3 4)))
-
--- the demand that a request of a port of a class becomes: that level; "Demand is that or the class budget, the smaller."
+-- the demand that a request of a port of a class becomes: its level; "Demand is that or the class budget, the smaller."
 abbrev pub demand_for : Board → ℕ → ℕ → Power
-demand_for Access v class = level_of v
+demand_for Access v class = access.level_of v
 demand_for FourPair v class = fourPair.demand_for v class
-
--- "Over the class budget: 11.", and request [4]: "11 for 256 to 999"
-unfoldable pub over_level : ℕ → ℕ → Bool
-over_level v class = ltb 255 v || over (level_of v) (access.budget_of class)
 
 -- refusal 11; "Largest requests, 11 above them: 38, 64, 130, 255, 400, 510"
 abbrev pub over_class : Board → ℕ → ℕ → Bool
-over_class Access v class = over_level v class
+over_class Access v class = access.over_class v class
 over_class FourPair v class = fourPair.over_class v class
 
 -- "a number of closed ports equal to the ones in the two masks"; "A closed port has its bit in both masks, so the closed number is the ones

@@ -1,3 +1,2 @@
 pub mod Boards
-pub mod ByMask
 pub mod Unique

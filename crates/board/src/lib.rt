@@ -2,10 +2,10 @@
 #![tactic(auto)]
 
 ghost use Rattle.std.specs.Prelude.{◌≡◌, ◌≤◌};
-ghost use Rattle.board.specs.ByMask.{said_by};
-ghost use Rattle.board.specs.Boards.{sample_bytes, class_shown, most_class, budget_of, forced_claim, cold_word, refused, level_of, over_level, over_class, demand_for, closed_number};
+ghost use Rattle.board.specs.Boards.{sample_bytes, class_shown, most_class, budget_of, forced_claim, cold_word, refused, over_class, demand_for, closed_number};
 
 use class::{ClassReading, class_of_two};
+use control::by_mask;
 use four_pair::class_of_three;
 use power::Power;
 
@@ -73,53 +73,18 @@ pub fn cold_word(board: Board) -> u16
     }
 }
 
-// Bit w is set if the word w, of those below 64, has a reserved code: enable 11, or pair control 00 or 11.
-// So a word is told with no branch.
-const NOT_ONE: u64 = 0xf88f_f88f_f88f_f88f;
-
 // Enable 11, or pair control other than 11.
 const NOT_BOTH: u64 = 0x8fff_8fff_8fff_8fff;
 
-fn by_mask(mask: u64, word: u64) -> bool
-    ensures { result ≡ said_by mask word }
-{
-    (64 <= word) | ((mask >> (word % 64)) % 2 == 1)
-}
-
 // A write of a word is refused with 3. The number may be wider than a word: what stands above bit 15 is reserved too.
+#[tactic(auto, using(crate::proofs::Words::access_told, crate::proofs::Words::both_told))]
 pub fn refused(board: Board, word: u64) -> bool
     ensures { result ≡ refused board word }
 {
     match board {
-        Board::Access => by_mask(NOT_ONE, word),
+        Board::Access => control::refused(word),
         Board::FourPair => by_mask(NOT_BOTH, word),
     }
-}
-
-// The budgets of classes 1 to 4 are the levels of a request.
-fn level_of(value: u64) -> Power
-    ensures { result ≡ level_of value }
-{
-    if value <= 38 {
-        return class::budget(1);
-    }
-    if value <= 64 {
-        return class::budget(2);
-    }
-    if value <= 129 {
-        return class::budget(3);
-    }
-    class::budget(4)
-}
-
-// What is above 255 is over every class, whatever its level.
-fn over_level(value: u64, class: u8) -> bool
-    ensures { result ≡ over_level value class }
-{
-    if 255 < value {
-        return true;
-    }
-    !level_of(value).at_most(class::budget(class))
 }
 
 // A request of a port of a class is refused with 11.
@@ -127,7 +92,7 @@ pub fn over_class(board: Board, value: u64, class: u8) -> bool
     ensures { result ≡ over_class board value class }
 {
     match board {
-        Board::Access => over_level(value, class),
+        Board::Access => class::over_class(value, class),
         Board::FourPair => four_pair::over_class(value, class),
     }
 }
@@ -137,7 +102,7 @@ pub fn demand_for(board: Board, value: u64, class: u8) -> Power
     ensures { result ≡ demand_for board value class }
 {
     match board {
-        Board::Access => level_of(value),
+        Board::Access => class::level_of(value),
         Board::FourPair => four_pair::demand_for(value, class),
     }
 }
@@ -146,7 +111,7 @@ pub fn closed_number(board: Board, a: u64, b: u64) -> u32
     ensures { result ≡ closed_number board a b }
 {
     match board {
-        Board::Access => u64::count_ones(a) + u64::count_ones(b),
-        Board::FourPair => u64::count_ones(a),
+        Board::Access => a.count_ones() + b.count_ones(),
+        Board::FourPair => a.count_ones(),
     }
 }

@@ -4,16 +4,14 @@ use Prim.Native.Nat.{ℕ}
 use mathlib.Core.Path.{◌≡◌, refl}
 use mathlib.Core.Bool.{Bool, true}
 use lib.Dec.{leb}
+use Rattle.std.proofs.Common.{Option, Result, Ok, Err}
 use Rattle.lists.specs.Entries.{all, some}
 use Rattle.lists.proofs.Entries.{entry_or}
 use Rattle.lists.proofs.Tests.{choice}
 use Rattle.power.specs.Power.{tenths}
 use Rattle.class.specs.Class.{class_of, is_four, alone, class_of_two, budgets, budget_of, is_demand}
-use Rattle.class.specs.declared.Class.{Class}
-use Rattle.class.specs.declared.Class.TheVariants.{Is, Failure}
 use Rattle.class.specs.declared.ClassReading.{ClassReading}
-use Rattle.class.specs.declared.Events.{Events}
-use Rattle.class.specs.declared.Events.TheVariants.{Is as Shows, OverCurrent, Disagree}
+use Rattle.class.specs.declared.Failure.{Failure}
 
 -- the rule of the budgets' table: each is a demand that a well-made port may have, and so is what a number that is no class has.
 -- The test is computed once over the table
@@ -22,12 +20,11 @@ unfolding is_demand budget_of all some
 budget_is_demand class = entry_or (λ x. is_demand (tenths x)) 0 budgets refl refl class
 
 -- a class is at most 4, if there is one
-abbrev pub at_most_four : Events → Bool
-at_most_four (Shows k) = leb k 4
-at_most_four OverCurrent = true
-at_most_four Disagree = true
+abbrev pub at_most_four : Result ℕ Failure → Bool
+at_most_four (Ok k) = leb k 4
+at_most_four (Err e) = true
 
-abbrev FourOrLess : Class → Type 0
+abbrev FourOrLess : Option ℕ → Type 0
 FourOrLess c = at_most_four (alone c) ≡ true
 
 alone_at_most_four : (current : ℕ) → at_most_four (alone (class_of current)) ≡ true
@@ -44,5 +41,5 @@ pub class_of_two_at_most_four : (c1 c2 : ℕ) → at_most_four (class_of_two c1 
 unfolding class_of_two
 class_of_two_at_most_four c1 c2 =
     choice (λ (r : ClassReading). at_most_four r.shown ≡ true) (is_four (class_of c1)) _ _
-    (choice (λ (e : Events). at_most_four e ≡ true) (is_four (class_of c2)) _ _ refl refl)
+    (choice (λ (e : Result ℕ Failure). at_most_four e ≡ true) (is_four (class_of c2)) _ _ refl refl)
     (alone_at_most_four c1)

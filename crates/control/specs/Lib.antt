@@ -1,1 +1,2 @@
+pub mod ByMask
 pub mod Control

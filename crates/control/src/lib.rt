@@ -2,10 +2,11 @@
 #![tactic(auto)]
 
 ghost use Rattle.std.specs.Prelude.{◌≡◌};
+ghost use Rattle.control.specs.ByMask.{said_by};
 ghost use Rattle.control.specs.Control.{enable_of, pair_of, priority_of, refused};
 
 // Document 01, "1:0 enable": codes 00, 01, 10 and 11.
-#[derive(Clone, Copy)]
+#[derive(Clone, Copy, PartialEq, Eq)]
 pub enum Enable {
     Disabled,
     Enabled,
@@ -14,7 +15,7 @@ pub enum Enable {
 }
 
 // Document 01, "3:2 pair control": codes 00, 01, 10 and 11. This board reserves the first and the last.
-#[derive(Clone, Copy)]
+#[derive(Clone, Copy, PartialEq, Eq)]
 pub enum Pair {
     Neither,
     A,
@@ -23,7 +24,7 @@ pub enum Pair {
 }
 
 // Document 01, "5:4 priority": codes 00, 01, 10 and 11.
-#[derive(Clone, Copy)]
+#[derive(Clone, Copy, PartialEq, Eq)]
 pub enum Priority {
     Unknown,
     Critical,
@@ -31,13 +32,15 @@ pub enum Priority {
     Low,
 }
 
-#[derive(Clone, Copy)]
+#[derive(Clone, Copy, PartialEq, Eq)]
 pub struct Control {
     pub enable: Enable,
     pub pair: Pair,
     pub priority: Priority,
 }
 
+// Three matches, and not one function over a table of four: each says beside a code what it is.
+#[tactic(auto, unfolding(crate::specs::Control::enable_of, lists::specs::Bits::field))]
 pub fn enable_of(word: u16) -> Enable
     ensures { result ≡ enable_of word }
 {
@@ -49,6 +52,7 @@ pub fn enable_of(word: u16) -> Enable
     }
 }
 
+#[tactic(auto, unfolding(crate::specs::Control::pair_of, lists::specs::Bits::field))]
 pub fn pair_of(word: u16) -> Pair
     ensures { result ≡ pair_of word }
 {
@@ -60,6 +64,7 @@ pub fn pair_of(word: u16) -> Pair
     }
 }
 
+#[tactic(auto, unfolding(crate::specs::Control::priority_of, lists::specs::Bits::field))]
 pub fn priority_of(word: u16) -> Priority
     ensures { result ≡ priority_of word }
 {
@@ -71,13 +76,22 @@ pub fn priority_of(word: u16) -> Priority
     }
 }
 
-// Bit w is set if the word w, of those below 64, has a reserved code: enable 11, or pair control 00 or 11.
+// A test of words by a mask: bit w of it is set if the word w, of those below 64, passes. A word from 64 on passes too.
 // So a word is told with no branch, as it is asked of 48 ports in every tick.
+#[tactic(auto, unfolding(crate::specs::ByMask::said_by))]
+pub fn by_mask(mask: u64, word: u64) -> bool
+    ensures { result ≡ said_by mask word }
+{
+    (64 <= word) | (mask >> (word % 64) & 1 == 1)
+}
+
+// Enable 11, or pair control 00 or 11.
 const REFUSED: u64 = 0xf88f_f88f_f88f_f88f;
 
 // A write of a word is refused with 3. The number may be wider than a word: what stands above bit 15 is reserved too.
+#[tactic(auto, using(crate::proofs::Masks::refused_told))]
 pub fn refused(word: u64) -> bool
     ensures { result ≡ refused word }
 {
-    (64 <= word) | ((REFUSED >> (word % 64)) % 2 == 1)
+    by_mask(REFUSED, word)
 }

@@ -4,12 +4,11 @@
 pub mod limits;
 mod rules;
 
-ghost use Rattle.std.specs.Prelude.{◌≡◌, ◌&&◌};
-ghost use Rattle.enable.specs.Enable.{is_forced};
+ghost use Rattle.std.specs.Prelude.{◌≡◌};
 ghost use Rattle.port.specs.States.{gives_way};
 ghost use Rattle.diagram.specs.Step.{by_state, step};
 
-use control::{Enable, enable_of};
+use control::enable_of;
 use enable::{is_forced, is_off};
 use port::entry::{enter, quietly};
 use port::form::{Moved, Port, Reading, State};
@@ -19,29 +18,13 @@ use power::Power;
 fn gives_way(state: State) -> bool
     ensures { result ≡ gives_way state }
 {
-    match state {
-        State::Disabled => false,
-        State::Idle => false,
-        State::Detecting => true,
-        State::Backoff => false,
-        State::Classifying => true,
-        State::PowerUp => true,
-        State::PowerOn => true,
-        State::ErrorDelay => false,
-        State::TestMode => false,
-        State::TestError => false,
-    }
+    matches!(
+        state,
+        State::Detecting | State::Classifying | State::PowerUp | State::PowerOn
+    )
 }
 
-fn steps_back(enable: Enable, state: State) -> bool
-    ensures { result ≡ (is_forced enable && gives_way state) }
-{
-    if is_forced(enable) {
-        return gives_way(state);
-    }
-    false
-}
-
+#[tactic(auto, unfolding(crate::specs::Step::by_state))]
 fn by_state(state: State, claim: Power, port: Port, reading: Reading) -> Moved
     ensures { result ≡ by_state state claim port reading }
 {
@@ -60,6 +43,7 @@ fn by_state(state: State, claim: Power, port: Port, reading: Reading) -> Moved
 }
 
 // The two enable rules come first, and advance no counter. The claim is what the board's forced ports ask for.
+#[tactic(auto, unfolding(crate::specs::Step::step))]
 pub fn step(claim: Power, port: Port, reading: Reading) -> Moved
     ensures { result ≡ step claim port reading }
 {
@@ -67,9 +51,8 @@ pub fn step(claim: Power, port: Port, reading: Reading) -> Moved
     if is_off(enable) {
         return quietly(enter(State::Disabled, port));
     }
-    let state = port.state;
-    if steps_back(enable, state) {
+    if is_forced(enable) && gives_way(port.state) {
         return quietly(enter(State::Idle, port));
     }
-    by_state(state, claim, port, reading)
+    by_state(port.state, claim, port, reading)
 }

@@ -1,6 +1,8 @@
 // The rule of each state of the diagram. A rule advances the state's counters first, and then compares.
-ghost use Rattle.std.specs.Prelude.{◌≡◌};
-ghost use Rattle.diagram.specs.Rules.{is_b, idle, detected, detecting, backoff, error_delay_rule, classed, classifying, stressed, watched, risen, power_up, power_on_rule, test_mode, test_error};
+ghost use Rattle.std.specs.Prelude.{◌≡◌, cond};
+ghost use Rattle.port.specs.Changes.{quietly};
+ghost use Rattle.port.specs.Entry.{enter};
+ghost use Rattle.diagram.specs.Rules.{idle, detected, detecting, backoff, error_delay_rule, classed, classifying, stressed, watched, risen, power_up, power_on_rule, test_mode, test_error};
 
 use crate::limits::{
     BACKOFF_ENDS, CLASSIFYING_ENDS, DETECTING_ENDS, ERROR_DELAY_ENDS, FAULT, LOAD_ABSENT,
@@ -48,17 +50,7 @@ const ABSENT: Latches = Latches {
     ..Latches::NONE
 };
 
-fn is_b(pair: Pair) -> bool
-    ensures { result ≡ is_b pair }
-{
-    match pair {
-        Pair::Neither => false,
-        Pair::A => false,
-        Pair::B => true,
-        Pair::Both => false,
-    }
-}
-
+#[tactic(auto, unfolding(crate::specs::Rules::idle))]
 pub fn idle(claim: Power, port: Port) -> Moved
     ensures { result ≡ idle claim port }
 {
@@ -75,72 +67,73 @@ pub fn idle(claim: Power, port: Port) -> Moved
     quietly(port)
 }
 
+#[tactic(auto, unfolding(crate::specs::Rules::detected))]
 fn detected(detection: Detection, port: Port) -> Moved
     ensures { result ≡ detected detection port }
 {
     match detection {
         Detection::NotDone => quietly(port),
         Detection::Valid => latching(VALID, enter(State::Classifying, port)),
-        Detection::Invalid => {
-            if is_b(pair_of(port.control)) {
-                latching(INVALID, enter(State::Backoff, port))
-            } else {
-                latching(INVALID, enter(State::Idle, port))
-            }
+        Detection::Invalid if pair_of(port.control) == Pair::B => {
+            latching(INVALID, enter(State::Backoff, port))
         }
-        Detection::Open => latching(INVALID, enter(State::Idle, port)),
+        Detection::Invalid | Detection::Open => latching(INVALID, enter(State::Idle, port)),
     }
 }
 
+// This rule and that of CLASSIFYING differ in the counter, in its end and in what follows: one function that took all three would be no plainer.
+#[tactic(auto, unfolding(crate::specs::Rules::detecting))]
 pub fn detecting(port: Port, reading: Reading) -> Moved
     ensures { result ≡ detecting port reading }
 {
-    let before = port.counts;
-    let ticks = up(before.detection);
+    let ticks = up(port.counts.detection);
     let counts = Counts {
         detection: ticks,
-        ..before
+        ..port.counts
     };
     let after = Port { counts, ..port };
     if DETECTING_ENDS <= ticks {
         return quietly(enter(State::Idle, after));
     }
-    let detection = reading.detection;
-    detected(detection, after)
+    detected(reading.detection, after)
 }
 
+// A state that looks at its counter alone.
+fn waited(ends: bool, after: Port) -> Moved
+    ensures { result ≡ quietly (cond ends (enter State.Idle after) after) }
+{
+    if ends {
+        quietly(enter(State::Idle, after))
+    } else {
+        quietly(after)
+    }
+}
+
+#[tactic(auto, unfolding(crate::specs::Rules::backoff))]
 pub fn backoff(port: Port) -> Moved
     ensures { result ≡ backoff port }
 {
-    let before = port.counts;
-    let ticks = up(before.backoff);
+    let ticks = up(port.counts.backoff);
     let counts = Counts {
         backoff: ticks,
-        ..before
+        ..port.counts
     };
-    let after = Port { counts, ..port };
-    if BACKOFF_ENDS <= ticks {
-        return quietly(enter(State::Idle, after));
-    }
-    quietly(after)
+    waited(BACKOFF_ENDS <= ticks, Port { counts, ..port })
 }
 
+#[tactic(auto, unfolding(crate::specs::Rules::error_delay_rule))]
 pub fn error_delay(port: Port) -> Moved
     ensures { result ≡ error_delay_rule port }
 {
-    let before = port.counts;
-    let ticks = up(before.error_delay);
+    let ticks = up(port.counts.error_delay);
     let counts = Counts {
         error_delay: ticks,
-        ..before
+        ..port.counts
     };
-    let after = Port { counts, ..port };
-    if ERROR_DELAY_ENDS <= ticks {
-        return quietly(enter(State::Idle, after));
-    }
-    quietly(after)
+    waited(ERROR_DELAY_ENDS <= ticks, Port { counts, ..port })
 }
 
+#[tactic(auto, unfolding(crate::specs::Rules::classed))]
 fn classed(class: Classing, port: Port) -> Moved
     ensures { result ≡ classed class port }
 {
@@ -156,36 +149,35 @@ fn classed(class: Classing, port: Port) -> Moved
     }
 }
 
+#[tactic(auto, unfolding(crate::specs::Rules::classifying))]
 pub fn classifying(port: Port, reading: Reading) -> Moved
     ensures { result ≡ classifying port reading }
 {
-    let before = port.counts;
-    let ticks = up(before.power_on);
+    let ticks = up(port.counts.power_on);
     let counts = Counts {
         power_on: ticks,
-        ..before
+        ..port.counts
     };
     let after = Port { counts, ..port };
     if CLASSIFYING_ENDS <= ticks {
         return quietly(enter(State::Idle, after));
     }
-    let class = reading.class;
-    classed(class, after)
+    classed(reading.class, after)
 }
 
+#[tactic(auto, unfolding(crate::specs::Rules::stressed))]
 fn stressed(reading: Reading, counts: Counts) -> Counts
     ensures { result ≡ stressed reading counts }
 {
-    let limiting = during(reading.limiting, counts.limiting);
-    let overload = during(reading.overload, counts.overload);
     Counts {
-        limiting,
-        overload,
+        limiting: during(reading.limiting, counts.limiting),
+        overload: during(reading.overload, counts.overload),
         ..counts
     }
 }
 
 // Limiting is looked at before overload.
+#[tactic(auto, unfolding(crate::specs::Rules::watched))]
 fn watched(port: Port, fault: Port, sound: Moved) -> Moved
     ensures { result ≡ watched port fault sound }
 {
@@ -199,6 +191,7 @@ fn watched(port: Port, fault: Port, sound: Moved) -> Moved
 }
 
 // At 400 the power-on counter goes before the settled flag.
+#[tactic(auto, unfolding(crate::specs::Rules::risen))]
 fn risen(settled: bool, port: Port) -> Port
     ensures { result ≡ risen settled port }
 {
@@ -211,15 +204,13 @@ fn risen(settled: bool, port: Port) -> Port
     port
 }
 
+#[tactic(auto, unfolding(crate::specs::Rules::power_up))]
 pub fn power_up(port: Port, reading: Reading) -> Moved
     ensures { result ≡ power_up port reading }
 {
-    let before = port.counts;
-    let ticks = up(before.power_on);
-    let stress = stressed(reading, before);
     let counts = Counts {
-        power_on: ticks,
-        ..stress
+        power_on: up(port.counts.power_on),
+        ..stressed(reading, port.counts)
     };
     let after = Port { counts, ..port };
     watched(
@@ -229,15 +220,14 @@ pub fn power_up(port: Port, reading: Reading) -> Moved
     )
 }
 
+#[tactic(auto, unfolding(crate::specs::Rules::power_on_rule))]
 pub fn power_on(port: Port, reading: Reading) -> Moved
     ensures { result ≡ power_on_rule port reading }
 {
-    let before = port.counts;
-    let ticks = during(!reading.load, before.no_load);
-    let stress = stressed(reading, before);
+    let ticks = during(!reading.load, port.counts.no_load);
     let counts = Counts {
         no_load: ticks,
-        ..stress
+        ..stressed(reading, port.counts)
     };
     let after = Port { counts, ..port };
     let fault = enter(State::ErrorDelay, after);
@@ -247,11 +237,11 @@ pub fn power_on(port: Port, reading: Reading) -> Moved
     watched(after, fault, quietly(after))
 }
 
+#[tactic(auto, unfolding(crate::specs::Rules::test_mode))]
 pub fn test_mode(port: Port, reading: Reading) -> Moved
     ensures { result ≡ test_mode port reading }
 {
-    let before = port.counts;
-    let counts = stressed(reading, before);
+    let counts = stressed(reading, port.counts);
     let after = Port { counts, ..port };
     if is_forced(enable_of(port.control)) {
         return watched(after, enter(State::TestError, after), quietly(after));
@@ -259,6 +249,7 @@ pub fn test_mode(port: Port, reading: Reading) -> Moved
     quietly(enter(State::Idle, after))
 }
 
+#[tactic(auto, unfolding(crate::specs::Rules::test_error))]
 pub fn test_error(port: Port) -> Moved
     ensures { result ≡ test_error port }
 {

@@ -1,14 +1,12 @@
 -- Request [13] of document 02: the four-pair board's class of three currents, its budgets, its largest requests and its cable loss.
 -- Assumes nothing.
-use Rattle.std.specs.Prelude.{ℕ, zero, suc, ◌-◌, ◌*◌, min, Bool, false, cond, ◌&&◌, List, [], ◌∷◌, leb, ltb, eqb, get_or}
+use Rattle.std.specs.Prelude.{ℕ, zero, suc, ◌-◌, ◌*◌, min, Bool, false, cond, ◌&&◌, List, [], ◌∷◌, leb, ltb, eqb, get_or, Option, Some, None, Result, Ok, Err}
 use Rattle.power.specs.Power.{tenths}
 use Rattle.power.specs.declared.Power.{Power}
 use Rattle.class.specs.Class.{class_of, is_four, class_of_two}
-use Rattle.class.specs.declared.Class.{Class}
-use Rattle.class.specs.declared.Class.TheVariants.{Is, Failure}
 use Rattle.class.specs.declared.ClassReading.{ClassReading}
-use Rattle.class.specs.declared.Events.{Events}
-use Rattle.class.specs.declared.Events.TheVariants.{Is as Shows, OverCurrent, Disagree}
+use Rattle.class.specs.declared.Failure.{Failure}
+use Rattle.class.specs.declared.Failure.TheVariants.{Disagree}
 
 -- "Demands 0 to 600 and classes 0 to 6 are well-made here."
 abbrev pub most_class : ℕ
@@ -19,15 +17,14 @@ is_demand d = leb d.0 600
 
 -- "two 4s then class 0 is class 5, then class 1 is class 6; two 4s then class 4 is class 4; other thirds are failure, as events that
 -- disagree"
-unfoldable pub third : Class → Events
-third (Is k) = cond (eqb k 0) (Shows 5) (cond (eqb k 1) (Shows 6) (cond (eqb k 4) (Shows 4) Disagree))
-third Failure = Disagree
+unfoldable pub third : Option ℕ → Result ℕ Failure
+third (Some k) = cond (eqb k 0) (Ok 5) (cond (eqb k 1) (Ok 6) (cond (eqb k 4) (Ok 4) (Err Disagree)))
+third None = Err Disagree
 
 -- the events show class 4
-abbrev pub shows_four : Events → Bool
-shows_four (Shows k) = eqb k 4
-shows_four OverCurrent = false
-shows_four Disagree = false
+abbrev pub shows_four : Result ℕ Failure → Bool
+shows_four (Ok k) = eqb k 4
+shows_four (Err e) = false
 
 -- "A third class current" is used after two 4s; before that the reading is the one of two currents
 unfoldable pub class_of_three : ℕ → ℕ → ℕ → ClassReading

@@ -1,12 +1,12 @@
 -- Rows of the four-pair board: each limit of the third current, each budget, both sides of each largest request, and the entries of the loss
 -- table that request [13] names. Proved in proofs/Rows.
 -- Assumes nothing.
-use Rattle.std.specs.Prelude.{ℕ, Bool, true, false, ◌≡◌, List, [], ◌∷◌, map}
+use Rattle.std.specs.Prelude.{ℕ, Bool, true, false, ◌≡◌, List, [], ◌∷◌, map, Result, Ok, Err}
 use Rattle.power.specs.Power.{tenths}
 use Rattle.power.specs.declared.Power.{Power}
 use Rattle.class.specs.declared.ClassReading.{ClassReading}
-use Rattle.class.specs.declared.Events.{Events}
-use Rattle.class.specs.declared.Events.TheVariants.{Is as Shows, OverCurrent, Disagree}
+use Rattle.class.specs.declared.Failure.{Failure}
+use Rattle.class.specs.declared.Failure.TheVariants.{OverCurrent, Disagree}
 use Rattle.four_pair.specs.FourPair.{class_of_three, budget_of, forced_claim, over_class, loss_of, demand_for, is_demand}
 
 pub data Question : Type 0 where
@@ -47,31 +47,31 @@ abbrev pub Holds : List Row → Type 0
 Holds rows = map (λ (r : Row). meaning r.0) rows ≡ map (λ (r : Row). r.1) rows
 
 -- what the currents show, and how many of them were used
-abbrev shown : Events → ℕ → ClassReading
+abbrev shown : Result ℕ Failure → ℕ → ClassReading
 shown e n = record { shown = e; used = n }
 
 unfoldable pub currents : List Row
 currents =
-    (three_currents 40000 40000 0, reads (shown (Shows 5) 3))
-    ∷ (three_currents 40000 40000 5000, reads (shown (Shows 5) 3))
-    ∷ (three_currents 40000 40000 5001, reads (shown (Shows 6) 3))
-    ∷ (three_currents 40000 40000 13000, reads (shown (Shows 6) 3))
-    ∷ (three_currents 40000 40000 13001, reads (shown Disagree 3))
-    ∷ (three_currents 40000 40000 31000, reads (shown Disagree 3))
-    ∷ (three_currents 40000 40000 31001, reads (shown (Shows 4) 3))
-    ∷ (three_currents 40000 40000 45000, reads (shown (Shows 4) 3))
-    ∷ (three_currents 40000 40000 45001, reads (shown Disagree 3))
-    ∷ (three_currents 31001 45000 0, reads (shown (Shows 5) 3))
-    ∷ (three_currents 45000 31001 5001, reads (shown (Shows 6) 3))
-    ∷ (three_currents 40000 31000 0, reads (shown Disagree 2))
-    ∷ (three_currents 40000 0 5001, reads (shown Disagree 2))
-    ∷ (three_currents 40000 45001 40000, reads (shown Disagree 2))
-    ∷ (three_currents 31000 40000 0, reads (shown (Shows 3) 1))
-    ∷ (three_currents 21000 40000 40000, reads (shown (Shows 2) 1))
-    ∷ (three_currents 13000 40000 5001, reads (shown (Shows 1) 1))
-    ∷ (three_currents 5000 40000 0, reads (shown (Shows 0) 1))
-    ∷ (three_currents 45001 40000 0, reads (shown OverCurrent 1))
-    ∷ (three_currents 65535 65535 65535, reads (shown OverCurrent 1))
+    (three_currents 40000 40000 0, reads (shown (Ok 5) 3))
+    ∷ (three_currents 40000 40000 5000, reads (shown (Ok 5) 3))
+    ∷ (three_currents 40000 40000 5001, reads (shown (Ok 6) 3))
+    ∷ (three_currents 40000 40000 13000, reads (shown (Ok 6) 3))
+    ∷ (three_currents 40000 40000 13001, reads (shown (Err Disagree) 3))
+    ∷ (three_currents 40000 40000 31000, reads (shown (Err Disagree) 3))
+    ∷ (three_currents 40000 40000 31001, reads (shown (Ok 4) 3))
+    ∷ (three_currents 40000 40000 45000, reads (shown (Ok 4) 3))
+    ∷ (three_currents 40000 40000 45001, reads (shown (Err Disagree) 3))
+    ∷ (three_currents 31001 45000 0, reads (shown (Ok 5) 3))
+    ∷ (three_currents 45000 31001 5001, reads (shown (Ok 6) 3))
+    ∷ (three_currents 40000 31000 0, reads (shown (Err Disagree) 2))
+    ∷ (three_currents 40000 0 5001, reads (shown (Err Disagree) 2))
+    ∷ (three_currents 40000 45001 40000, reads (shown (Err Disagree) 2))
+    ∷ (three_currents 31000 40000 0, reads (shown (Ok 3) 1))
+    ∷ (three_currents 21000 40000 40000, reads (shown (Ok 2) 1))
+    ∷ (three_currents 13000 40000 5001, reads (shown (Ok 1) 1))
+    ∷ (three_currents 5000 40000 0, reads (shown (Ok 0) 1))
+    ∷ (three_currents 45001 40000 0, reads (shown (Err OverCurrent) 1))
+    ∷ (three_currents 65535 65535 65535, reads (shown (Err OverCurrent) 1))
     ∷ []
 
 unfoldable pub requests : List Row

@@ -33,6 +33,7 @@ const LOSS: [u16; 511] = [
 ];
 
 // No port may request over 510: such a number has no loss.
+#[tactic(auto, using(crate::proofs::Loss::loss_entry, crate::proofs::Loss::loss_none), unfolding(crate::proofs::Table::losses))]
 pub fn loss_of(request: u64) -> u16
     ensures { result ≡ loss_of request }
 {

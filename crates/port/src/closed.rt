@@ -7,16 +7,5 @@ use crate::form::State;
 pub fn is_closed(state: State) -> bool
     ensures { result ≡ closed state }
 {
-    match state {
-        State::Disabled => false,
-        State::Idle => false,
-        State::Detecting => false,
-        State::Backoff => false,
-        State::Classifying => false,
-        State::PowerUp => true,
-        State::PowerOn => true,
-        State::ErrorDelay => false,
-        State::TestMode => true,
-        State::TestError => false,
-    }
+    matches!(state, State::PowerUp | State::PowerOn | State::TestMode)
 }

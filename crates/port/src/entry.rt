@@ -8,12 +8,14 @@ use power::Power;
 use sizes::MOST_COUNT;
 use status::Latches;
 
+#[tactic(auto, unfolding(crate::specs::Entry::up))]
 pub fn up(n: u16) -> u16
     ensures { result ≡ up n }
 {
     if n < MOST_COUNT { n + 1 } else { MOST_COUNT }
 }
 
+#[tactic(auto, unfolding(crate::specs::Entry::during))]
 pub fn during(runs: bool, n: u16) -> u16
     ensures { result ≡ during runs n }
 {
@@ -25,8 +27,6 @@ fn counts_on_entry(to: State, counts: Counts) -> Counts
     ensures { result ≡ counts_on_entry to counts }
 {
     match to {
-        State::Disabled => counts,
-        State::Idle => counts,
         State::Detecting => Counts {
             detection: 0,
             ..counts
@@ -39,7 +39,7 @@ fn counts_on_entry(to: State, counts: Counts) -> Counts
             power_on: 0,
             ..counts
         },
-        State::PowerUp => Counts {
+        State::PowerUp | State::TestMode => Counts {
             limiting: 0,
             overload: 0,
             ..counts
@@ -52,43 +52,28 @@ fn counts_on_entry(to: State, counts: Counts) -> Counts
             error_delay: 0,
             ..counts
         },
-        State::TestMode => Counts {
-            limiting: 0,
-            overload: 0,
-            ..counts
-        },
-        State::TestError => counts,
+        State::Disabled | State::Idle | State::TestError => counts,
     }
 }
 
 fn demand_on_entry(to: State, demand: Power) -> Power
     ensures { result ≡ demand_on_entry to demand }
 {
-    match to {
-        State::Disabled => Power::ZERO,
-        State::Idle => Power::ZERO,
-        State::Detecting => demand,
-        State::Backoff => demand,
-        State::Classifying => demand,
-        State::PowerUp => demand,
-        State::PowerOn => demand,
-        State::ErrorDelay => demand,
-        State::TestMode => demand,
-        State::TestError => demand,
+    if matches!(to, State::Disabled | State::Idle) {
+        Power::ZERO
+    } else {
+        demand
     }
 }
 
+#[tactic(auto, unfolding(crate::specs::Entry::enter))]
 pub fn enter(to: State, port: Port) -> Port
     ensures { result ≡ enter to port }
 {
-    let before = port.counts;
-    let counts = counts_on_entry(to, before);
-    let held = port.demand;
-    let demand = demand_on_entry(to, held);
     Port {
         state: to,
-        demand,
-        counts,
+        demand: demand_on_entry(to, port.demand),
+        counts: counts_on_entry(to, port.counts),
         ..port
     }
 }
@@ -97,10 +82,9 @@ pub fn enter(to: State, port: Port) -> Port
 pub fn quietly(port: Port) -> Moved
     ensures { result ≡ quietly port }
 {
-    let latched = Latches::NONE;
     Moved {
         port,
-        latched,
+        latched: Latches::NONE,
         asks: false,
     }
 }
@@ -108,18 +92,18 @@ pub fn quietly(port: Port) -> Moved
 pub fn latching(latched: Latches, port: Port) -> Moved
     ensures { result ≡ latching latched port }
 {
-    let before = port.latches;
-    let latches = before.join(latched);
-    let moved = quietly(Port { latches, ..port });
-    Moved { latched, ..moved }
+    let latches = port.latches.join(latched);
+    Moved {
+        latched,
+        ..quietly(Port { latches, ..port })
+    }
 }
 
 pub fn asking(port: Port) -> Moved
     ensures { result ≡ asking port }
 {
-    let moved = quietly(port);
     Moved {
         asks: true,
-        ..moved
+        ..quietly(port)
     }
 }

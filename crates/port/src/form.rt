@@ -2,7 +2,7 @@
 use power::Power;
 use status::Latches;
 
-#[derive(Clone, Copy)]
+#[derive(Clone, Copy, PartialEq, Eq)]
 pub enum State {
     Disabled,
     Idle,
@@ -39,7 +39,9 @@ pub struct Port {
     pub counts: Counts,
 }
 
-#[derive(Clone, Copy)]
+// Kept an enum, as is the next: no Option of a signature and no Result of a class, since a port knows no board's sample and stands on the crate
+// of neither.
+#[derive(Clone, Copy, PartialEq, Eq)]
 pub enum Detection {
     NotDone,
     Valid,
@@ -47,7 +49,7 @@ pub enum Detection {
     Open,
 }
 
-#[derive(Clone, Copy)]
+#[derive(Clone, Copy, PartialEq, Eq)]
 pub enum Classing {
     NotDone,
     OverCurrent,

@@ -1,10 +1,10 @@
 -- Document 01: "Power is a kind of its own, counted in tenths of a watt."
-use Rattle.std.specs.Prelude.{ℕ, ◌+◌, min, Bool, cond, leb, ltb, eqb}
+use Rattle.std.specs.Prelude.{ℕ, ◌+◌, min, Bool, cond, leb, ltb, eqb, Result, Ok}
 use Rattle.sizes.specs.Sizes.{most_supply}
+use Rattle.sizes.specs.Refused.{refused}
+use Rattle.sizes.specs.declared.refusals.Refusal.{Refusal}
 use Rattle.power.specs.declared.Power.{Power}
 use Rattle.power.specs.declared.Sum.{Sum}
-use Rattle.power.specs.declared.Supply.{Supply}
-use Rattle.power.specs.declared.Supply.TheVariants.{Is, TooLarge}
 
 -- so many tenths of a watt
 abbrev pub tenths : ℕ → Power
@@ -33,8 +33,8 @@ unfoldable pub same : Power → Power → Bool
 same a b = eqb a.0 b.0
 
 -- the supply that a caller's number is; "supply figure over 60,000" is refused
-unfoldable pub supply_of : ℕ → Supply
-supply_of figure = cond (leb figure highest_supply.0) (Is (tenths figure)) TooLarge
+unfoldable pub supply_of : ℕ → Result Power Refusal
+supply_of figure = cond (leb figure highest_supply.0) (Ok (tenths figure)) (refused 4)
 
 -- powers added up
 abbrev pub sum_of : ℕ → Sum

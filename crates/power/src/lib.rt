@@ -4,16 +4,10 @@
 ghost use Rattle.std.specs.Prelude.{◌≡◌};
 ghost use Rattle.power.specs.Power.{at_most, same, supply_of, plus, join, fits};
 
-#[derive(Clone, Copy)]
-pub struct Power(pub u16);
+use sizes::refusals::Refusal;
 
-// What a supply figure handed in by a caller is.
-#[derive(Clone, Copy)]
-pub enum Supply {
-    Is(Power),
-    // Refusal 4.
-    TooLarge,
-}
+#[derive(Clone, Copy, PartialEq, Eq, PartialOrd, Ord)]
+pub struct Power(pub u16);
 
 impl Power {
     pub const ZERO: Power = Power(0);
@@ -22,67 +16,61 @@ impl Power {
 
     pub const HIGHEST_SUPPLY: Power = Power(60_000);
 
+    // This and the next stand beside `<=` and `==`: the list of one possible answer names them (`power_at_most`, `power_same`).
+    #[tactic(auto, unfolding(crate::specs::Power::at_most))]
     pub fn at_most(self, other: Power) -> bool
         ensures { result ≡ at_most self other }
     {
-        self.0 <= other.0
+        self <= other
     }
 
+    #[tactic(auto, unfolding(crate::specs::Power::same))]
     pub fn same(self, other: Power) -> bool
         ensures { result ≡ same self other }
     {
-        self.0 == other.0
+        self == other
     }
 
     // A caller's number may be as wide as it likes: it is refused, and never cut.
-    pub fn supply(figure: u64) -> Supply
+    #[tactic(auto, unfolding(crate::specs::Power::supply_of))]
+    pub fn supply(figure: u64) -> Result<Power, Refusal>
         ensures { result ≡ supply_of figure }
     {
-        let highest = Power::HIGHEST_SUPPLY.0;
-        if figure <= highest as u64 {
-            Supply::Is(Power(figure as u16))
+        if figure <= Power::HIGHEST_SUPPLY.0 as u64 {
+            Ok(Power(figure as u16))
         } else {
-            Supply::TooLarge
+            Err(Refusal::SupplyTooLarge)
         }
     }
 }
 
 // Powers added up. It is wider than a power, so that the demands of a whole table never reach its end.
-#[derive(Clone, Copy)]
+#[derive(Clone, Copy, PartialEq, Eq, PartialOrd, Ord)]
 pub struct Sum(pub u32);
 
 impl Sum {
     pub const ZERO: Sum = Sum(0);
 
     // Past the end of the type a sum stays there: it never wraps to a small one.
+    #[tactic(auto, unfolding(crate::specs::Power::plus, crate::specs::Power::join))]
     pub fn plus(self, power: Power) -> Sum
         ensures { result ≡ plus self power }
     {
-        let sum = self.0;
-        let demand = power.0 as u32;
-        if sum <= 4_294_967_295 - demand {
-            Sum(sum + demand)
-        } else {
-            Sum(4_294_967_295)
-        }
+        self.join(Sum(power.0 as u32))
     }
 
     // Two sums in one, with the same end.
+    #[tactic(auto, unfolding(crate::specs::Power::join))]
     pub fn join(self, other: Sum) -> Sum
         ensures { result ≡ join self other }
     {
-        let sum = self.0;
-        let more = other.0;
-        if sum <= 4_294_967_295 - more {
-            Sum(sum + more)
-        } else {
-            Sum(4_294_967_295)
-        }
+        Sum(self.0.saturating_add(other.0))
     }
 
+    #[tactic(auto, unfolding(crate::specs::Power::fits))]
     pub fn fits(self, supply: Power) -> bool
         ensures { result ≡ fits self supply }
     {
-        self.0 <= supply.0 as u32
+        self <= Sum(supply.0 as u32)
     }
 }

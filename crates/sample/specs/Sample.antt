@@ -1,11 +1,9 @@
 -- Document 01, "Samples": the fourteen bytes of a port and the flags.
-use Rattle.std.specs.Prelude.{ℕ, ◌+◌, ◌*◌, ◌/◌, Bool, cond, List, ltb, length}
+use Rattle.std.specs.Prelude.{ℕ, ◌+◌, ◌*◌, ◌/◌, Bool, cond, List, ltb, length, Option, Some, None}
 use Rattle.lists.specs.Bytes.{word_at}
 use Rattle.sizes.specs.Sizes.{sample_bytes}
 use Rattle.lists.specs.Bits.{bit, above}
 use Rattle.sample.specs.declared.Sample.{Sample}
-use Rattle.sample.specs.declared.Sampled.{Sampled}
-use Rattle.sample.specs.declared.Sampled.TheVariants.{Is, Cut}
 use Rattle.sample.specs.declared.Flags.{Flags}
 
 -- "V1, V2 (mV), I1, I2 (µA), C1, C2 (class currents, µA), flags."
@@ -22,8 +20,8 @@ sample_at bytes at =
     }
 
 -- "14 bytes a port, in port order": the sample of a port whose fourteen bytes the block has
-unfoldable pub sample_of : List ℕ → ℕ → Sampled
-sample_of block port = cond (ltb port (length block / sample_bytes)) (Is (sample_at block (sample_bytes * port))) Cut
+unfoldable pub sample_of : List ℕ → ℕ → Option Sample
+sample_of block port = cond (ltb port (length block / sample_bytes)) (Some (sample_at block (sample_bytes * port))) None
 
 -- "15:6 zero" is broken
 unfoldable pub reserved_flags : ℕ → Bool

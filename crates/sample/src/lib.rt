@@ -2,6 +2,7 @@
 #![tactic(auto)]
 
 ghost use Rattle.std.specs.Prelude.{◌≡◌, ◌+◌, ◌<◌, length};
+ghost use Rattle.lists.specs.Bits.{bit};
 ghost use Rattle.lists.specs.Bytes.{word_at};
 ghost use Rattle.sample.specs.Sample.{sample_of, flags_of};
 
@@ -19,26 +20,22 @@ pub struct Sample {
     pub flags: u16,
 }
 
-#[derive(Clone, Copy)]
-pub enum Sampled {
-    Is(Sample),
-    // The block ends before the port's fourteen bytes do.
-    Cut,
-}
-
+#[tactic(auto, unfolding(lists::specs::Bytes::word_at))]
 fn word_at(block: &[u8], at: usize) -> u16
     requires { at + 1 < length block.now }
     ensures { result ≡ word_at block.now at }
 {
-    block[at] as u16 * 256 + block[at + 1] as u16
+    u16::from_be_bytes([block[at], block[at + 1]])
 }
 
-pub fn sample_of(block: &[u8], port: usize) -> Sampled
+// None: the block ends before the port's fourteen bytes do.
+#[tactic(auto, unfolding(crate::specs::Sample::sample_of, crate::specs::Sample::sample_at))]
+pub fn sample_of(block: &[u8], port: usize) -> Option<Sample>
     ensures { result ≡ sample_of block.now port }
 {
     if port < block.len() / SAMPLE {
         let at = SAMPLE * port;
-        Sampled::Is(Sample {
+        Some(Sample {
             v1: word_at(block, at),
             v2: word_at(block, at + 2),
             i1: word_at(block, at + 4),
@@ -48,7 +45,7 @@ pub fn sample_of(block: &[u8], port: usize) -> Sampled
             flags: word_at(block, at + 12),
         })
     } else {
-        Sampled::Cut
+        None
     }
 }
 
@@ -62,15 +59,20 @@ pub struct Flags {
     pub load: bool,
 }
 
+#[tactic(auto, unfolding(crate::specs::Sample::flags_of, lists::specs::Bits::bit))]
 pub fn flags_of(flags: u16) -> Flags
     ensures { result ≡ flags_of flags }
 {
+    let bit = |k: u32| -> bool
+        requires { k < 6 }
+        ensures { result ≡ bit k flags }
+    { flags >> k & 1 == 1 };
     Flags {
-        detection_done: flags % 2 == 1,
-        class_done: flags / 2 % 2 == 1,
-        settled: flags / 4 % 2 == 1,
-        limiting: flags / 8 % 2 == 1,
-        overload: flags / 16 % 2 == 1,
-        load: flags / 32 % 2 == 1,
+        detection_done: bit(0),
+        class_done: bit(1),
+        settled: bit(2),
+        limiting: bit(3),
+        overload: bit(4),
+        load: bit(5),
     }
 }

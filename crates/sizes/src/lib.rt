@@ -20,7 +20,7 @@ pub const MOST_COUNT: u16 = 2_000;
 // Request [4] of document 02: a power value is "0 through 999".
 pub const MOST_VALUE: u64 = 999;
 
-// The lent table: 8 cells of head, and 15 fields of each place.
+// The lent table: 8 cells of head, and 15 fields of each place. Field by field and no array of structs, as C lends it.
 pub const CELLS: usize = 8 + 15 * PORTS;
 
 // A table's image: 6 bytes of head, and 21 of each place.

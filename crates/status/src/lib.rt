@@ -1,11 +1,10 @@
 // The status word: latches, class and condition.
 #![tactic(auto)]
 
-ghost use Rattle.std.specs.Prelude.{◌≡◌, ◌*◌, ◌<◌, ◌≤◌};
-ghost use Rattle.lists.specs.Bits.{one};
-ghost use Rattle.status.specs.Status.{join, condition_code, status_word};
+ghost use Rattle.std.specs.Prelude.{◌≡◌};
+ghost use Rattle.status.specs.Status.{join, status_word};
 
-#[derive(Clone, Copy)]
+#[derive(Clone, Copy, PartialEq, Eq)]
 pub struct Latches {
     pub disagree: bool,
     pub over_current: bool,
@@ -30,6 +29,7 @@ impl Latches {
     };
 
     // A latch stays set until a status read clears it: what is latched is added to what was.
+    #[tactic(auto, unfolding(crate::specs::Status::join))]
     pub fn join(self, more: Latches) -> Latches
         ensures { result ≡ join self more }
     {
@@ -47,7 +47,7 @@ impl Latches {
 }
 
 // What a port is doing, as the status word tells it.
-#[derive(Clone, Copy)]
+#[derive(Clone, Copy, PartialEq, Eq)]
 pub enum Condition {
     Disabled,
     Searching,
@@ -56,38 +56,20 @@ pub enum Condition {
     Faulty,
 }
 
-fn condition_code(condition: Condition) -> u16
-    ensures { (result ≡ condition_code condition) × (result < 5) }
-{
-    match condition {
-        Condition::Disabled => 0,
-        Condition::Searching => 1,
-        Condition::Delivering => 2,
-        Condition::Testing => 3,
-        Condition::Faulty => 4,
-    }
-}
-
-// A set latch counts as much as its place.
-fn place(set: bool, value: u16) -> u16
-    ensures { (result ≡ one set * value) × (result ≤ value) }
-{
-    if set { value } else { 0 }
-}
-
-// Of a class the word has room for three bits; a well-made port's class is at most 4.
+// The conditions stand in the order of their codes. Of a class the word has room for three bits; a well-made port's class is at most 4.
+#[tactic(auto, using(lists::proofs::Bits::byte_is, lists::proofs::Bits::byte_small), unfolding(crate::specs::Status::status_word))]
 pub fn status_word(latches: Latches, class: u8, condition: Condition) -> u16
     ensures { result ≡ status_word latches class condition }
 {
-    place(latches.disagree, 16_384)
-        + place(latches.over_current, 8_192)
-        + place(latches.denied, 4_096)
-        + place(latches.valid, 2_048)
-        + place(latches.invalid, 1_024)
-        + place(latches.short, 512)
-        + place(latches.overload, 256)
-        + place(latches.absent, 128)
+    16_384 * latches.disagree as u16
+        + 8_192 * latches.over_current as u16
+        + 4_096 * latches.denied as u16
+        + 2_048 * latches.valid as u16
+        + 1_024 * latches.invalid as u16
+        + 512 * latches.short as u16
+        + 256 * latches.overload as u16
+        + 128 * latches.absent as u16
         + 16 * (class % 8) as u16
-        + 2 * condition_code(condition)
+        + 2 * condition as u16
         + 1
 }
