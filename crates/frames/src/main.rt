@@ -3,9 +3,7 @@
 #![tactic(auto)]
 
 use fields::{Added, Fields, Form};
-use reader::ReadAnswer;
-use search::Searched;
-use writer::Written;
+use search::Found;
 
 fn number(n: u64) {
     io::print_decimal(1, n);
@@ -14,44 +12,31 @@ fn number(n: u64) {
 
 fn refused(k: u8) {
     io::write_all(1, b"refused ");
-    number(k as u64);
+    number(u64::from(k));
 }
 
 fn octet(n: u8) {
-    io::print_hex(1, n as u64, 2);
+    io::print_hex(1, u64::from(n), 2);
 }
 
 fn end_line() {
     io::write_all(1, b"\n");
 }
 
-// The whole room and not only what was lent of it, so that a byte too many shows, and so does a byte that a refusal wrote.
-fn show_room(room: &[u8; 16]) {
-    let mut i = 0;
-    while i < 16 {
-        octet(room[i]);
-        i += 1;
-    }
-}
-
-fn lend(fields: Fields, room: &mut [u8], lent: usize) -> Written {
-    if room.len() < lent {
-        return writer::write(fields, room);
-    }
-    writer::write(fields, &mut room[..lent])
-}
-
-fn give(fields: Fields, lent: u8) {
+// Of the room only so many bytes are lent, but all of it is shown, so that a byte too many shows, and so does a byte that a refusal wrote.
+fn give(fields: Fields, lent: usize) {
     let mut room = [0xa5u8; 16];
-    let answer = lend(fields, &mut room, lent as usize);
-    match answer {
-        Written::Is(n) => {
+    let lent = lent.min(room.len());
+    match writer::write(fields, &mut room[..lent]) {
+        Ok(n) => {
             io::write_all(1, b"wrote ");
             number(n as u64);
         }
-        Written::Refused(k) => refused(k),
+        Err(refusal) => refused(refusal.number()),
     }
-    show_room(&room);
+    for byte in room {
+        octet(byte);
+    }
 }
 
 fn show_form(form: Form) {
@@ -72,79 +57,55 @@ fn show_form(form: Form) {
 
 // The fields, and what they are when written back.
 fn take(part: &[u8]) {
-    let taken = reader::read(part);
-    match taken {
-        ReadAnswer::Is(fields) => {
-            number(fields.support as u64);
-            number(fields.pair as u64);
-            number(fields.class as u64);
-            let form = fields.form;
-            show_form(form);
+    match reader::read(part) {
+        Ok(fields) => {
+            number(u64::from(fields.support));
+            number(u64::from(fields.pair));
+            number(u64::from(fields.class));
+            show_form(fields.form);
             give(fields, 16);
         }
-        ReadAnswer::Refused(k) => refused(k),
+        Err(refusal) => refused(refusal.number()),
     }
     end_line();
 }
 
+fn place(found: Found) {
+    io::write_all(1, b"at ");
+    number(found.start as u64);
+    number(found.size as u64);
+}
+
 fn find(pdu: &[u8]) {
-    let found = search::search(pdu);
-    match found {
-        Searched::Is(at, size) => {
-            io::write_all(1, b"at ");
-            number(at as u64);
-            number(size as u64);
-            take(search::part(pdu, at, size));
+    match search::search(pdu) {
+        Ok(found) => {
+            place(found);
+            take(search::part(pdu, found.start, found.size));
         }
-        Searched::Refused(k) => {
-            refused(k);
+        Err(refusal) => {
+            refused(refusal.number());
             end_line();
         }
     }
 }
 
-fn place(pdu: &[u8]) {
-    let found = search::search(pdu);
-    match found {
-        Searched::Is(at, size) => {
-            io::write_all(1, b"at ");
-            number(at as u64);
-            number(size as u64);
-        }
-        Searched::Refused(k) => number(k as u64),
-    }
-}
-
 // Every beginning of the PDU that is not all of it, on one line: where the power TLV is, or the refusal's number.
 fn find_cut(pdu: &[u8]) {
-    let mut n = 0;
-    while n < pdu.len() {
-        place(search::part(pdu, 0, n));
-        n += 1;
+    for n in 0..pdu.len() {
+        match search::search(search::part(pdu, 0, n)) {
+            Ok(found) => place(found),
+            Err(refusal) => number(u64::from(refusal.number())),
+        }
     }
     end_line();
 }
 
-fn joined(high: u8, low: u8) -> u16 {
-    high as u16 * 256 + low as u16
-}
-
-fn wide(high: u16, low: u16) -> u64 {
-    high as u64 * 65_536 + low as u64
-}
-
 // A number of four bytes, so that the writer is handed some that are too large for its places in the TLV.
 fn number_at(record: &[u8], at: usize) -> u64 {
-    if record.len() < 4 {
-        return 0;
+    match record.get(at..) {
+        Some([a, b, c, d, ..]) => u64::from(u32::from_be_bytes([*a, *b, *c, *d])),
+        _ => 0,
     }
-    if record.len() - 4 < at {
-        return 0;
-    }
-    wide(
-        joined(record[at], record[at + 1]),
-        joined(record[at + 2], record[at + 3]),
-    )
 }
 
 fn form_in(record: &[u8], long: bool) -> Form {
@@ -162,19 +123,21 @@ fn form_in(record: &[u8], long: bool) -> Form {
 
 // The room that is lent, the three octets, 0 or 1 for the form, and the five numbers.
 fn write_record(record: &[u8]) {
-    if 25 <= record.len() {
-        let form = form_in(record, record[4] == 1);
+    if let [lent, support, pair, class, long, numbers @ ..] = record
+        && 20 <= numbers.len()
+    {
         let fields = Fields {
-            support: record[1],
-            pair: record[2],
-            class: record[3],
-            form,
+            support: *support,
+            pair: *pair,
+            class: *class,
+            form: form_in(record, *long == 1),
         };
-        give(fields, record[0]);
+        give(fields, usize::from(*lent));
     }
     end_line();
 }
 
+// Kept a number: the kind is a byte of the input, and is looked at here alone.
 fn show(kind: u8, record: &[u8]) {
     match kind {
         0 => find(record),
@@ -190,25 +153,24 @@ fn next() -> bool {
     if io::read_full(0, &mut head) < 3 {
         return false;
     }
-    let size = joined(head[1], head[2]) as usize;
+    let [kind, high, low] = head;
+    let size = usize::from(u16::from_be_bytes([high, low]));
     if 2_048 < size {
         return false;
     }
     let mut space = [0u8; 2_048];
-    let record: &mut [u8] = &mut space[..size];
+    let record = &mut space[..size];
     if io::read_full(0, record) < size {
         return false;
     }
-    show(head[0], record);
+    show(kind, record);
     true
 }
 
 fn main() {
-    let mut left: u32 = 65_536;
-    while 0 < left {
+    for _ in 0..65_536 {
         if !next() {
             return;
         }
-        left -= 1;
     }
 }

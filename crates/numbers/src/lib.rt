@@ -6,48 +6,35 @@ ghost use Rattle.numbers.specs.Numbers.{no_form, no_fields, form_given};
 
 use fields::{Added, Form};
 
+#[tactic(auto, unfolding(crate::specs::Numbers::no_form))]
 fn no_form(form: u32) -> bool
     ensures { result ≡ no_form form }
 {
-    if form == 7 {
-        return false;
-    }
-    form != 12
+    !matches!(form, 7 | 12)
 }
 
 // Refusal 3 of the form and the octets.
+#[tactic(auto, unfolding(crate::specs::Numbers::no_fields))]
 pub fn no_fields(numbers: &[u32; 9]) -> bool
     ensures { result ≡ no_fields numbers.now }
 {
-    if no_form(numbers[0]) {
-        return true;
-    }
-    if 255 < numbers[1] {
-        return true;
-    }
-    if 255 < numbers[2] {
-        return true;
-    }
-    255 < numbers[3]
+    no_form(numbers[0]) || numbers[1..4].iter().any(|octet| 255 < *octet)
 }
 
-fn wide(number: u32) -> u64
-    ensures { result ≡ number }
-{
-    number as u64
-}
-
+#[tactic(auto, unfolding(crate::specs::Numbers::form_given))]
 pub fn form_given(numbers: &[u32; 9]) -> Form
     ensures { result ≡ form_given numbers.now }
 {
-    if numbers[0] == 7 {
-        return Form::Short;
+    let [form, _, _, _, kind, source, priority, requested, allocated] = numbers.map(u64::from);
+    if form == 7 {
+        Form::Short
+    } else {
+        Form::Long(Added {
+            kind,
+            source,
+            priority,
+            requested,
+            allocated,
+        })
     }
-    Form::Long(Added {
-        kind: wide(numbers[4]),
-        source: wide(numbers[5]),
-        priority: wide(numbers[6]),
-        requested: wide(numbers[7]),
-        allocated: wide(numbers[8]),
-    })
 }

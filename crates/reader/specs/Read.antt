@@ -1,5 +1,5 @@
 -- Document 01, "The power TLV": what the reader answers.
-use Rattle.std.specs.Prelude.{ℕ, Bool, cond, ◌&&◌, ◌||◌, not, List, [], ◌∷◌, eqb, ltb, length, get_or}
+use Rattle.std.specs.Prelude.{ℕ, Bool, cond, ◌&&◌, ◌||◌, not, List, [], ◌∷◌, eqb, ltb, length, get_or, Result, Ok}
 use Rattle.lists.specs.Bytes.{word_at}
 use Rattle.lists.specs.Bits.{field}
 use Rattle.lists.specs.Ladder.{ladder}
@@ -9,8 +9,8 @@ use Rattle.fields.specs.declared.Fields.{Fields}
 use Rattle.fields.specs.declared.Form.{Form}
 use Rattle.fields.specs.declared.Form.TheVariants.{Short, Long}
 use Rattle.fields.specs.declared.Added.{Added}
-use Rattle.reader.specs.declared.ReadAnswer.{ReadAnswer}
-use Rattle.reader.specs.declared.ReadAnswer.TheVariants.{Is, Refused}
+use Rattle.sizes.specs.declared.refusals.Refusal.{Refusal}
+use Rattle.sizes.specs.Refused.{refused}
 
 -- refusal 6, "For the reader, fewer than two bytes, or fewer than the header says"
 unfoldable pub cut : List ℕ → Bool
@@ -43,5 +43,5 @@ fields_in bytes = record { support = get_or bytes 6 0; pair = get_or bytes 7 0; 
 abbrev pub read_refusals : List ℕ → List (ℕ × Bool)
 read_refusals bytes = (6, cut bytes) ∷ (9, not (exactly_one bytes)) ∷ (10, bad_values (form_in bytes)) ∷ []
 
-unfoldable pub read_of : List ℕ → ReadAnswer
-read_of bytes = ladder (read_refusals bytes) Refused (Is (fields_in bytes))
+unfoldable pub read_of : List ℕ → Result Fields Refusal
+read_of bytes = ladder (read_refusals bytes) refused (Ok (fields_in bytes))

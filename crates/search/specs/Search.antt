@@ -1,10 +1,11 @@
 -- Document 01, "The power TLV": what the search answers.
-use Rattle.std.specs.Prelude.{ℕ, Bool, true, false, cond, List, [], ◌∷◌, eqb, ltb, length, get_or}
+use Rattle.std.specs.Prelude.{ℕ, Bool, true, false, cond, List, [], ◌∷◌, eqb, ltb, length, get_or, Result, Ok}
 use Rattle.lists.specs.Ladder.{ladder}
 use Rattle.header.specs.Header.{size_at, is_power}
 use Rattle.walk.specs.Walk.{Walk, ended, cut, tlv, walk_from}
-use Rattle.search.specs.declared.Searched.{Searched}
-use Rattle.search.specs.declared.Searched.TheVariants.{Is, Refused}
+use Rattle.search.specs.declared.Found.{Found}
+use Rattle.sizes.specs.declared.refusals.Refusal.{Refusal}
+use Rattle.sizes.specs.Refused.{refused}
 
 -- refusal 6, "a TLV runs past the end of the bytes", wherever in the walk it stands
 unfoldable pub is_cut : Walk → Bool
@@ -32,9 +33,9 @@ search_refusals bytes =
     ∷ []
 
 -- the part that starts at a boundary
-abbrev pub part_at : List ℕ → ℕ → Searched
-part_at bytes at = Is at (size_at bytes at)
+abbrev pub part_at : List ℕ → ℕ → Result Found Refusal
+part_at bytes at = Ok (record { start = at; size = size_at bytes at })
 
 -- "hands back the part that is the power TLV": there is one
-unfoldable pub search_of : List ℕ → Searched
-search_of bytes = ladder (search_refusals bytes) Refused (part_at bytes (get_or (powers_in bytes) 0 0))
+unfoldable pub search_of : List ℕ → Result Found Refusal
+search_of bytes = ladder (search_refusals bytes) refused (part_at bytes (get_or (powers_in bytes) 0 0))

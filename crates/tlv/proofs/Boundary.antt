@@ -8,6 +8,7 @@ use native.Mathlib.Nat.{add-zero, add_assoc}
 use native.Mathlib.Omega.{arith}
 use lib.Dec.{eqb}
 use lib.ListN.{length, get_or, take, drop, length-drop}
+use Rattle.std.specs.Prelude.{Ok}
 use lib.Seq.{get_or-take, get_or-drop, length-take-le}
 use borrow.Author.Tests.{leb-true}
 use Rattle.lists.specs.Bytes.{word_at}
@@ -20,7 +21,8 @@ use Rattle.walk.specs.Walk.{step_of, Walk, onward, walk, walk_from}
 use Rattle.walk.proofs.Walked as Walked
 use Rattle.walk.specs.declared.Step.{Step}
 use Rattle.walk.specs.declared.Step.TheVariants.{End, Cut, Tlv}
-use Rattle.search.specs.declared.Searched.TheVariants.{Is, Refused}
+use Rattle.search.specs.declared.Found.{Found}
+use Rattle.sizes.specs.Refused.{refused}
 use Rattle.tlv.proofs.ReadRewrites.{taken}
 use Rattle.header.proofs.Fixed.{spelt}
 use Rattle.reader.proofs.ExactlyOne.{whole, power}
@@ -55,15 +57,13 @@ module _ (bytes : List ℕ) where
   first [] h e = absurd (true≢false e)
   first (p ∷ rest) h e = h.0
 
-  at_boundary : (at size : ℕ) → search_of bytes ≡ Is at size → PowerAt bytes at size
+  at_boundary : (found : Found) → search_of bytes ≡ Ok found → PowerAt bytes found.start found.size
   unfolding search_of walk_from
-  at_boundary at size e =
+  at_boundary found e =
       let only = get_or (powers_in bytes) 0 0 in
-      let clear = ladder_value Refused (part_at bytes only) (Is at size) (λ k q. let z : ◌≡◌ {A = ℕ} 0 1 = cc in omega arith) (search_refusals bytes) e in
-      let place : only ≡ at = cc in
-      let wide : size_at bytes only ≡ size = cc in
-      subst (λ (n : ℕ). PowerAt bytes at n) wide
-      (subst (λ (a : ℕ). PowerAt bytes a (size_at bytes only)) place (first (powers_in bytes) (every (length bytes - 0) 0 start) clear.0.1.1.1.0))
+      let clear = ladder_value refused (part_at bytes only) (Ok found) (λ k q. cc) (search_refusals bytes) e in
+      let it : record { start = only; size = size_at bytes only } ≡ found = cc in
+      subst (λ (f : Found). PowerAt bytes f.start f.size) it (first (powers_in bytes) (every (length bytes - 0) 0 start) clear.0.1.1.1.0)
 
 -- the part has the bytes that stand from its start on, so it has the same header and the same four bytes
 module _ (bytes : List ℕ) (at size : ℕ) (p : PowerAt bytes at size) where
@@ -109,7 +109,7 @@ module _ (bytes : List ℕ) (at size : ℕ) (p : PowerAt bytes at size) where
       record { whole = length-take-le size (drop at bytes) (simp length-drop (omega arith)) ∙ sym same_size; power = same_power }
 
 pub found_power : FoundPower
-found_power bytes at size e = let p = at_boundary bytes at size e in (p, one_power bytes at size p)
+found_power bytes found e = let p = at_boundary bytes found e in (p, one_power bytes found.start found.size p)
 
 pub taken_power : TakenPower
 unfolding size_at

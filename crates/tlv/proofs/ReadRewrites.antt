@@ -3,12 +3,13 @@
 use mathlib.Core.Path.{◌≡◌, ◌∙◌, refl, sym, ap, subst}
 use mathlib.Core.Bool.{Bool, true, false, cond}
 use mathlib.Core.List.{List, [], ◌∷◌, ◌++◌}
-use mathlib.Core.Logic.{◌⊎◌, ⊎_elim}
+use mathlib.Core.Logic.{⊎_elim}
 use Prim.Native.Nat.{ℕ, zero, suc, ◌+◌, ◌*◌, ◌/◌, ◌%◌, ◌^◌, ◌<◌}
 use native.Mathlib.Nat.{div-one, add-zero}
 use native.Mathlib.Omega.{arith}
 use lib.Dec.{eqb, leb}
 use lib.ListN.{length, get_or, drop}
+use Rattle.std.specs.Prelude.{Ok}
 use borrow.Author.Tests.{eqb-true, eq-eqb, ne_eqb, ltb-true, le-ltb, not-false}
 use Rattle.lists.specs.Bytes.{word_at}
 use Rattle.lists.specs.Bits.{field}
@@ -23,17 +24,16 @@ use Rattle.reader.specs.Read.{exactly_one, added_in, form_in, fields_in, read_re
 use Rattle.writer.specs.Write.{bad_codes, bytes_of}
 use Rattle.fields.specs.declared.Fields.{Fields}
 use Rattle.fields.specs.declared.Form.TheVariants.{Short, Long}
-use Rattle.reader.specs.declared.ReadAnswer.TheVariants.{Is, Refused}
-use Rattle.writer.specs.declared.Written.TheVariants.{Is as Wrote}
+use Rattle.sizes.specs.Refused.{refused}
 use Rattle.header.proofs.Fixed.{four}
 use Rattle.reader.proofs.ExactlyOne.{whole, power, lengths}
 use Rattle.writer.proofs.Stored.{Answers, accept}
 
 -- what an accepted read says of its bytes
-pub taken : (bytes : List ℕ) (f : Fields) → read_of bytes ≡ Is f → (exactly_one bytes ≡ true) × (bad_values (form_in bytes) ≡ false) × (fields_in bytes ≡ f)
+pub taken : (bytes : List ℕ) (f : Fields) → read_of bytes ≡ Ok f → (exactly_one bytes ≡ true) × (bad_values (form_in bytes) ≡ false) × (fields_in bytes ≡ f)
 unfolding read_of
 taken bytes f e =
-    let h = ladder_value Refused (Is (fields_in bytes)) (Is f) (λ k q. let z : ◌≡◌ {A = ℕ} 0 1 = cc in omega arith) (read_refusals bytes) e in
+    let h = ladder_value refused (Ok (fields_in bytes)) (Ok f) (λ k q. cc) (read_refusals bytes) e in
     (not-false (exactly_one bytes) h.0.1.0, h.0.1.1.0, cc)
 
 -- a list written out, element by element
@@ -122,6 +122,6 @@ unfolding form_in fields_in
 read_rewrites b bytes f e z room h =
     let t = taken b f e in
     let same = again b bytes t.0 z in
-    subst (λ (g : Fields). Answers g room (Wrote (length b)) (b ++ drop (length b) room)) t.2
+    subst (λ (g : Fields). Answers g room (Ok (length b)) (b ++ drop (length b) room)) t.2
     (accept (fields_in b) room (codes b (eqb (length_at b 0) 7)) t.1 (length b) (ap length same) h (b ++ drop (length b) room)
     (ap (λ (l : List ℕ). l ++ drop (length b) room) (sym same)))

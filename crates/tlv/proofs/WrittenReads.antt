@@ -6,6 +6,7 @@ use Prim.Native.Nat.{ℕ, ◌+◌, ◌*◌, ◌/◌, ◌%◌}
 use native.Mathlib.Nat.{div-one}
 use native.Mathlib.Omega.{arith}
 use lib.ListN.{length, take, drop}
+use Rattle.std.specs.Prelude.{Result, Ok}
 use lib.Seq.{take_at}
 use borrow.Author.Tests.{le-ltb}
 use Rattle.lists.specs.Bytes.{word_at}
@@ -21,9 +22,8 @@ use Rattle.fields.specs.declared.Fields.{Fields}
 use Rattle.fields.specs.declared.Form.{Form}
 use Rattle.fields.specs.declared.Form.TheVariants.{Short, Long}
 use Rattle.fields.specs.declared.Added.{Added}
-use Rattle.reader.specs.declared.ReadAnswer.TheVariants.{Is}
-use Rattle.writer.specs.declared.Written.{Written}
-use Rattle.writer.specs.declared.Written.TheVariants.{Is as Wrote, Refused}
+use Rattle.sizes.specs.declared.refusals.Refusal.{Refusal}
+use Rattle.sizes.specs.Refused.{refused}
 use Rattle.writer.proofs.InRange.{codes}
 use Rattle.writer.proofs.Stored.{accept, size_long}
 
@@ -44,7 +44,7 @@ added_back a f e h =
 
 -- every form whose fields are not refused reads back
 reads : (s p k : ℕ) (form : Form) → bad_codes form ≡ false → bad_values form ≡ false
-    → read_of (bytes_of (record { support = s; pair = p; class = k; form = form })) ≡ Is (record { support = s; pair = p; class = k; form = form })
+    → read_of (bytes_of (record { support = s; pair = p; class = k; form = form })) ≡ Ok (record { support = s; pair = p; class = k; form = form })
 unfolding read_of cut exactly_one fields_in form_in bytes_of bad_values is_power fixed_at stands_at type_at length_at size_at word_at field
 reads s p k Short h v = refl
 reads s p k (Long a) h v = simp (added_back a (record { support = s; pair = p; class = k; form = Long a }) refl h, v)
@@ -53,9 +53,9 @@ reads s p k (Long a) h v = simp (added_back a (record { support = s; pair = p; c
 pub written_reads : WrittenReads
 unfolding written_of room_after
 written_reads f room n e =
-    let h = ladder_value Refused (Wrote (length (bytes_of f))) (Wrote n) (λ k q. let z : ◌≡◌ {A = ℕ} 0 1 = cc in omega arith) (write_refusals f room) e in
+    let h = ladder_value refused (Ok (length (bytes_of f))) (Ok n) (λ k q. cc) (write_refusals f room) e in
     let size : length (bytes_of f) ≡ n = cc in
-    ap (λ (w : Written). read_of (take n (left w f room))) e
+    ap (λ (w : Result ℕ Refusal). read_of (take n (left w f room))) e
     ∙ ap read_of (take_at (bytes_of f) (drop n room) n size)
     ∙ reads f.support f.pair f.class f.form h.0.0 h.0.1.0
 

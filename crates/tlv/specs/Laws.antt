@@ -1,5 +1,5 @@
 -- What holds of the reader, the writer and the search together, over both forms of the power TLV. Proved in proofs/WrittenReads, ReadRewrites and Boundary.
-use Rattle.std.specs.Prelude.{◌≡◌, Bool, true, List, ◌++◌, ℕ, ◌+◌, ◌≤◌, ltb, length, get_or, take, drop}
+use Rattle.std.specs.Prelude.{◌≡◌, Bool, true, List, ◌++◌, ℕ, ◌+◌, ◌≤◌, ltb, length, get_or, take, drop, Ok}
 use Rattle.sizes.specs.Sizes.{most_value}
 use Rattle.lists.specs.Bits.{field}
 use Rattle.lists.specs.Entries.{all}
@@ -11,20 +11,18 @@ use Rattle.writer.specs.Write.{written_of, room_after}
 use Rattle.fields.specs.declared.Fields.{Fields}
 use Rattle.fields.specs.declared.Form.TheVariants.{Long}
 use Rattle.fields.specs.declared.Added.{Added}
-use Rattle.reader.specs.declared.ReadAnswer.TheVariants.{Is as ReadAnswer}
 use Rattle.walk.specs.declared.Step.TheVariants.{Tlv}
-use Rattle.search.specs.declared.Searched.TheVariants.{Is as Found}
-use Rattle.writer.specs.declared.Written.TheVariants.{Is as Wrote}
+use Rattle.search.specs.declared.Found.{Found}
 
 -- "Whatever is written reads back as written"
 abbrev pub WrittenReads : Type 0
-WrittenReads = (f : Fields) (room : List ℕ) (n : ℕ) → written_of f room ≡ Wrote n → read_of (take n (room_after f room)) ≡ ReadAnswer f
+WrittenReads = (f : Fields) (room : List ℕ) (n : ℕ) → written_of f room ≡ Ok n → read_of (take n (room_after f room)) ≡ Ok f
 
 -- request [4] of document 02, "0 through 999": each such value is written, beside any octets and codes, and reads back
 abbrev pub EveryValue : Type 0
 EveryValue =
     (f : Fields) (a : Added) → f.form ≡ Long a → a.kind ≤ 3 → a.source ≤ 3 → a.priority ≤ 3 → a.requested ≤ most_value → a.allocated ≤ most_value
-    → (room : List ℕ) → 14 ≤ length room → (written_of f room ≡ Wrote 14) × (read_of (take 14 (room_after f room)) ≡ ReadAnswer f)
+    → (room : List ℕ) → 14 ≤ length room → (written_of f room ≡ Ok 14) × (read_of (take 14 (room_after f room)) ≡ Ok f)
 
 abbrev pub is_byte : ℕ → Bool
 is_byte x = ltb x 256
@@ -32,8 +30,8 @@ is_byte x = ltb x 256
 -- "bytes that read, with 3:2 zero, are rewritten the same": in any room that is long enough, whose other bytes stay
 abbrev pub ReadRewrites : Type 0
 ReadRewrites =
-    (bytes : List ℕ) → all is_byte bytes ≡ true → (f : Fields) → read_of bytes ≡ ReadAnswer f → field 2 2 (get_or bytes 9 0) ≡ 0
-    → (room : List ℕ) → length bytes ≤ length room → (Wrote (length bytes) ≡ written_of f room) × (bytes ++ drop (length bytes) room ≡ room_after f room)
+    (bytes : List ℕ) → all is_byte bytes ≡ true → (f : Fields) → read_of bytes ≡ Ok f → field 2 2 (get_or bytes 9 0) ≡ 0
+    → (room : List ℕ) → length bytes ≤ length room → (Ok (length bytes) ≡ written_of f room) × (bytes ++ drop (length bytes) room ≡ room_after f room)
 
 -- a boundary of the walk: the start of the bytes, or the end of a whole TLV that starts at a boundary
 pub data Boundary (bytes : List ℕ) : ℕ → Type 0 where
@@ -53,8 +51,8 @@ pub record OnePower (bytes : List ℕ) : Type 0 where
 
 -- "hands back the part that is the power TLV"
 abbrev pub FoundPower : Type 0
-FoundPower = (bytes : List ℕ) (at size : ℕ) → search_of bytes ≡ Found at size → PowerAt bytes at size × OnePower (take size (drop at bytes))
+FoundPower = (bytes : List ℕ) (found : Found) → search_of bytes ≡ Ok found → PowerAt bytes found.start found.size × OnePower (take found.size (drop found.start bytes))
 
 -- what the reader takes, from the search or from elsewhere
 abbrev pub TakenPower : Type 0
-TakenPower = (bytes : List ℕ) (f : Fields) → read_of bytes ≡ ReadAnswer f → OnePower bytes
+TakenPower = (bytes : List ℕ) (f : Fields) → read_of bytes ≡ Ok f → OnePower bytes

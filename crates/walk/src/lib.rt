@@ -7,7 +7,8 @@ ghost use Rattle.walk.specs.Walk.{step_of};
 use header::{length_at, type_at};
 
 // What stands at a boundary of the walk.
-#[derive(Drop)]
+// No iterator of TLVs, which is no plainer: it would hand out each place beside its size, and remember that a TLV was cut.
+#[derive(Clone, Copy, PartialEq, Eq)]
 pub enum Step {
     // The walk ends here.
     End,
@@ -17,23 +18,24 @@ pub enum Step {
     Tlv(usize),
 }
 
+#[tactic(auto, unfolding(crate::specs::Walk::step_of, header::specs::Header::size_at))]
 fn step_at(pdu: &[u8], at: usize) -> Step
     ensures { result ≡ step_of pdu.now at }
 {
-    if pdu.len() <= at {
-        return Step::End;
-    }
-    if pdu.len() - at < 2 {
-        return Step::Cut;
-    }
+    let rest = match pdu.get(at..) {
+        None | Some([]) => return Step::End,
+        Some([_]) => return Step::Cut,
+        Some(rest) => rest,
+    };
     if type_at(pdu, at) == 0 {
         return Step::End;
     }
     let size = 2 + length_at(pdu, at);
-    if pdu.len() - at < size {
-        return Step::Cut;
+    if rest.len() < size {
+        Step::Cut
+    } else {
+        Step::Tlv(size)
     }
-    Step::Tlv(size)
 }
 
 #[derive(Drop)]
@@ -42,6 +44,7 @@ pub struct Walker<'a> {
     pub at: usize,
 }
 
+// Functions and no methods: the list of one possible answer names them so (`walk_new`, `walk_here`).
 pub fn new<'a>(pdu: &'a [u8], at: usize) -> Walker<'a>
     ensures { (result.pdu ≡ pdu.entry) × (result.at ≡ at) }
 {

@@ -20,10 +20,6 @@ module _ (a : Added) where
       let rest = fails_right (ltb 3 a.kind) _ e in
       (ltb-false 3 _ (fails_left _ _ e), ltb-false 3 _ (fails_left _ _ rest), ltb-false 3 _ (fails_right (ltb 3 a.source) _ rest))
 
-  pub requested : bad_values (Long a) ≡ false → a.requested ≤ most_value
+  pub values : bad_values (Long a) ≡ false → (a.requested ≤ most_value) × (a.allocated ≤ most_value)
   unfolding bad_values
-  requested e = in_range _ (fails_left _ _ e)
-
-  pub allocated : bad_values (Long a) ≡ false → a.allocated ≤ most_value
-  unfolding bad_values
-  allocated e = in_range _ (fails_right (too_high a.requested) _ e)
+  values e = (in_range _ (fails_left _ _ e), in_range _ (fails_right (too_high a.requested) _ e))

@@ -1,5 +1,5 @@
 -- Document 01, "The power TLV": what the writer answers, and what it leaves in the room.
-use Rattle.std.specs.Prelude.{ℕ, ◌+◌, ◌*◌, ◌/◌, ◌%◌, Bool, false, ◌||◌, List, [], ◌∷◌, ◌++◌, ltb, length, drop}
+use Rattle.std.specs.Prelude.{ℕ, ◌+◌, ◌*◌, ◌/◌, ◌%◌, Bool, false, ◌||◌, List, [], ◌∷◌, ◌++◌, ltb, length, drop, Result, Ok, Err}
 use Rattle.lists.specs.Ladder.{ladder}
 use Rattle.fields.specs.Fields.{bad_values}
 use Rattle.header.specs.Header.{fixed}
@@ -7,8 +7,8 @@ use Rattle.fields.specs.declared.Fields.{Fields}
 use Rattle.fields.specs.declared.Form.{Form}
 use Rattle.fields.specs.declared.Form.TheVariants.{Short, Long}
 use Rattle.fields.specs.declared.Added.{Added}
-use Rattle.writer.specs.declared.Written.{Written}
-use Rattle.writer.specs.declared.Written.TheVariants.{Is, Refused}
+use Rattle.sizes.specs.declared.refusals.Refusal.{Refusal}
+use Rattle.sizes.specs.Refused.{refused}
 
 -- refusal 3, "a type, source or priority code over 3 handed to the writer"
 unfoldable pub bad_codes : Form → Bool
@@ -44,13 +44,13 @@ bytes_of f = head_bytes f (length_of f.form) ++ form_bytes f.form
 abbrev pub write_refusals : Fields → List ℕ → List (ℕ × Bool)
 write_refusals f room = (3, bad_codes f.form) ∷ (10, bad_values f.form) ∷ (1, ltb (length room) (length (bytes_of f))) ∷ []
 
-unfoldable pub written_of : Fields → List ℕ → Written
-written_of f room = ladder (write_refusals f room) Refused (Is (length (bytes_of f)))
+unfoldable pub written_of : Fields → List ℕ → Result ℕ Refusal
+written_of f room = ladder (write_refusals f room) refused (Ok (length (bytes_of f)))
 
 -- what each answer leaves: "Room past a written TLV keeps its bytes."; of a refusal, "no lent byte is written"
-abbrev pub left : Written → Fields → List ℕ → List ℕ
-left (Is n) f room = bytes_of f ++ drop n room
-left (Refused k) f room = room
+abbrev pub left : Result ℕ Refusal → Fields → List ℕ → List ℕ
+left (Ok n) f room = bytes_of f ++ drop n room
+left (Err r) f room = room
 
 -- the whole room once the writer has answered
 unfoldable pub room_after : Fields → List ℕ → List ℕ
