@@ -2,68 +2,52 @@
 // where they stand, and a refusal none of them. The fourth, the request, is the crate `request`.
 #![tactic(auto)]
 
-ghost use Rattle.std.specs.Prelude.{◌≡◌, ◌||◌, length};
+ghost use Rattle.std.specs.Prelude.{◌≡◌, ◌||◌};
 ghost use Rattle.status.specs.Status.{status_word};
 ghost use Rattle.port.specs.States.{condition, in_disabled};
 ghost use Rattle.table.specs.Parts.{port_at};
-ghost use Rattle.cells.specs.Cells.{cells_long, table_of, cells_of};
+ghost use Rattle.cells.specs.Cells.{table_of, cells_of};
 ghost use Rattle.cells.specs.Codes.{state_of};
-ghost use Rattle.cells.specs.Lent.{cells_told, cells_read, cells_cold};
+ghost use Rattle.cells.specs.Lent.{cells_told, cells_cold};
 ghost use Rattle.replies.specs.Calls.{cold_table, same_alternative};
-ghost use Rattle.replies.specs.Cold.{cold_cell};
 ghost use Rattle.replies.specs.OnCells.{start_on, control_on, status_on};
 ghost use Rattle.replies.specs.Rest.{AtPort, control_rest};
 
 use cells::{latches_of, state_of};
 use port::form::State;
-use sizes::{CELLS, PORTS_64, refusals};
+use sizes::refusals::Refusal;
+use sizes::{CELLS, PORTS_64};
 use status::{Condition, status_word};
-use table::form::{Answer, Status};
-use well::well_made;
+use well::port_named;
 
 // Enable 00, alternative A, priority unknown.
 const COLD: u16 = 0x0004;
 
-// The count stands first, and the control words from 56 on.
-fn cold_cell(count: u16, k: usize) -> u16
-    ensures { result ≡ cold_cell count k }
-{
-    if k == 0 {
-        return count;
-    }
-    if (56 <= k) & (k < 104) { COLD } else { 0 }
-}
-
 // Places at or past the port count are filled alike.
-fn fill(cells: &mut [u16], count: u16)
-    requires { length cells.old ≡ cells_long }
+fn fill(cells: &mut [u16; CELLS], count: u16)
     ensures { cells.new ≡ cells_of (cold_table count) }
 {
-    let mut k = 0;
-    while k < CELLS {
-        cells[k] = cold_cell(count, k);
-        k += 1;
-    }
+    cells.fill(0);
+    cells[0] = count;
+    cells[56..104].fill(COLD);
 }
 
 // It looks at nothing that the cells hold: they may never have been a table.
-pub fn cold_start(cells: &mut [u16], ports: u64) -> Answer
+pub fn cold_start(cells: &mut [u16], ports: u64) -> Result<(), Refusal>
     ensures value { result ≡ (start_on cells.old ports).answer }
     ensures cells_after { cells.new ≡ cells_cold (start_on cells.old ports) cells.old }
 {
-    if cells.len() != CELLS {
-        return Answer::Refused(refusals::ILL_MADE);
-    }
-    if ports < 1 {
-        return Answer::Refused(refusals::NO_SUCH_PORT);
-    }
-    if PORTS_64 < ports {
-        return Answer::Refused(refusals::NO_SUCH_PORT);
+    let Some(cells) = cells.as_mut_array::<CELLS>() else {
+        return Err(Refusal::IllMade);
+    };
+    if !(1..=PORTS_64).contains(&ports) {
+        return Err(Refusal::NoSuchPort);
     }
     fill(cells, ports as u16);
-    Answer::Done
+    Ok(())
 }
 
+#[tactic(auto, unfolding(replies::specs::Calls::same_alternative, lists::specs::Bits::field))]
 fn same_alternative(v: u16, w: u16) -> bool
     ensures { result ≡ same_alternative v w }
 {
@@ -71,43 +55,36 @@ fn same_alternative(v: u16, w: u16) -> bool
 }
 
 // The code of DISABLED is 0.
+#[tactic(auto, using(cells::proofs::CodeLaws::disabled_code))]
 fn may_write(state: u16, present: u16, word: u16) -> bool
     ensures { result ≡ (same_alternative present word || in_disabled (state_of state)) }
 {
-    if state == 0 {
-        return true;
-    }
-    same_alternative(present, word)
+    state == 0 || same_alternative(present, word)
 }
 
 // What the ladder asks after 13 and 2.
-fn controlled(cells: &mut [u16], p: usize, word: u64) -> Answer
+fn controlled(cells: &mut [u16], p: usize, word: u64) -> Result<(), Refusal>
     requires { AtPort cells.old p }
     ensures value { result ≡ (control_rest cells.old p word).answer }
     ensures cells_after { cells.new ≡ cells_told (control_rest cells.old p word) cells.old }
 {
     if control::refused(word) {
-        return Answer::Refused(refusals::RESERVED);
+        return Err(Refusal::Reserved);
     }
     let control = word as u16;
     if !may_write(cells[8 + p], cells[56 + p], control) {
-        return Answer::Refused(refusals::WRONG_STATE);
+        return Err(Refusal::WrongState);
     }
     cells[56 + p] = control;
-    Answer::Done
+    Ok(())
 }
 
-pub fn write_control(cells: &mut [u16], port: u64, word: u64) -> Answer
+pub fn write_control(cells: &mut [u16], port: u64, word: u64) -> Result<(), Refusal>
     ensures value { result ≡ (control_on cells.old port word).answer }
     ensures cells_after { cells.new ≡ cells_told (control_on cells.old port word) cells.old }
 {
-    if !well_made(cells) {
-        return Answer::Refused(refusals::ILL_MADE);
-    }
-    if cells[0] as u64 <= port {
-        return Answer::Refused(refusals::NO_SUCH_PORT);
-    }
-    controlled(cells, port as usize, word)
+    let p = port_named(cells, port)?;
+    controlled(cells, p, word)
 }
 
 fn condition_of(state: State) -> Condition
@@ -115,18 +92,15 @@ fn condition_of(state: State) -> Condition
 {
     match state {
         State::Disabled => Condition::Disabled,
-        State::Idle => Condition::Searching,
-        State::Detecting => Condition::Searching,
-        State::Backoff => Condition::Searching,
-        State::Classifying => Condition::Searching,
-        State::PowerUp => Condition::Delivering,
-        State::PowerOn => Condition::Delivering,
-        State::ErrorDelay => Condition::Faulty,
+        State::Idle | State::Detecting | State::Backoff | State::Classifying =>
+            Condition::Searching,
+        State::PowerUp | State::PowerOn => Condition::Delivering,
         State::TestMode => Condition::Testing,
-        State::TestError => Condition::Faulty,
+        State::ErrorDelay | State::TestError => Condition::Faulty,
     }
 }
 
+#[tactic(auto, using(replies::proofs::OnLaws::state_at, replies::proofs::OnLaws::class_at, replies::proofs::OnLaws::latches_at))]
 fn word_of(cells: &[u16], p: usize) -> u16
     requires { AtPort cells.now p }
     ensures { result ≡ status_word (port_at (table_of cells.now) p).latches (port_at (table_of cells.now) p).class (condition (port_at (table_of cells.now) p).state) }
@@ -135,18 +109,12 @@ fn word_of(cells: &[u16], p: usize) -> u16
     status_word(latches_of(cells[200 + p]), cells[152 + p] as u8, condition)
 }
 
-pub fn read_status(cells: &mut [u16], port: u64) -> Status
+pub fn read_status(cells: &mut [u16], port: u64) -> Result<u16, Refusal>
     ensures value { result ≡ (status_on cells.old port).answer }
-    ensures cells_after { cells.new ≡ cells_read (status_on cells.old port) cells.old }
+    ensures cells_after { cells.new ≡ cells_told (status_on cells.old port) cells.old }
 {
-    if !well_made(cells) {
-        return Status::Refused(refusals::ILL_MADE);
-    }
-    if cells[0] as u64 <= port {
-        return Status::Refused(refusals::NO_SUCH_PORT);
-    }
-    let p = port as usize;
-    let word = word_of(cells, p);
-    cells[200 + p] = 0;
-    Status::Word(word)
+    let place = port_named(cells, port)?;
+    let word = word_of(cells, place);
+    cells[200 + place] = 0;
+    Ok(word)
 }

@@ -1,39 +1,26 @@
 -- What a call answers and what it leaves, where it is known which refusal it is, or which table.
 -- Assumes nothing.
-use Prim.Native.Nat.{ℕ}
-use mathlib.Core.Path.{◌≡◌, sym, ◌∙◌, ap}
-use mathlib.Core.List.{List}
-use Rattle.table.specs.declared.form.Answer.TheVariants.{Done, Refused}
-use Rattle.table.specs.declared.form.Status.TheVariants.{Word, Refused as NoStatus}
-use Rattle.table.specs.declared.form.StatusRead.{StatusRead}
+use Rattle.std.proofs.Common.{ℕ, ◌≡◌, sym, ◌∙◌, ap, List, Result, Ok}
+use Rattle.sizes.specs.Refused.{refused}
+use Rattle.sizes.specs.declared.refusals.Refusal.{Refusal}
 use Rattle.table.specs.declared.form.Table.{Table}
-use Rattle.table.specs.declared.form.Replied.{Replied}
-use Rattle.table.specs.Parts.{done, refuse, tells, refuse_status}
+use Rattle.table.specs.Parts.{Told, tells, refuse}
 use Rattle.cells.specs.Cells.{cells_with, cells_of}
-use Rattle.cells.specs.Lent.{cells_told, cells_read, cells_cold}
+use Rattle.cells.specs.Lent.{cells_told, cells_cold}
 
-module _ (told : Replied) (t : Table) (l : List ℕ) where
-  pub told_refused : (k : ℕ) → told ≡ refuse k t → (Refused k ≡ told.answer) × (l ≡ cells_told told l)
+module _ {A : Type 0} (told : Told (Result A Refusal)) (t : Table) (l : List ℕ) where
+  pub told_refused : (k : ℕ) → told ≡ refuse k t → (refused k ≡ told.answer) × (l ≡ cells_told told l)
   unfolding refuse cells_told
-  told_refused k e = (ap (λ (x : Replied). x.answer) (sym e), ap (λ (x : Replied). cells_told x l) (sym e))
+  told_refused k e = (ap (λ (x : Told (Result A Refusal)). x.answer) (sym e), ap (λ (x : Told (Result A Refusal)). cells_told x l) (sym e))
 
-  pub told_done : (m : List ℕ) → told ≡ done t → m ≡ cells_with t l → (Done ≡ told.answer) × (m ≡ cells_told told l)
-  unfolding done cells_told
-  told_done m e w = (ap (λ (x : Replied). x.answer) (sym e), w ∙ ap (λ (x : Replied). cells_told x l) (sym e))
+  pub told_done : (m : List ℕ) (v w : A) → told ≡ tells w t → v ≡ w → m ≡ cells_with t l → (Ok v ≡ told.answer) × (m ≡ cells_told told l)
+  unfolding tells cells_told
+  told_done m v w e q s = (ap Ok q ∙ ap (λ (x : Told (Result A Refusal)). x.answer) (sym e), s ∙ ap (λ (x : Told (Result A Refusal)). cells_told x l) (sym e))
 
-  pub cold_refused : (k : ℕ) → told ≡ refuse k t → (Refused k ≡ told.answer) × (l ≡ cells_cold told l)
+  pub cold_refused : (k : ℕ) → told ≡ refuse k t → (refused k ≡ told.answer) × (l ≡ cells_cold told l)
   unfolding refuse cells_cold
-  cold_refused k e = (ap (λ (x : Replied). x.answer) (sym e), ap (λ (x : Replied). cells_cold x l) (sym e))
+  cold_refused k e = (ap (λ (x : Told (Result A Refusal)). x.answer) (sym e), ap (λ (x : Told (Result A Refusal)). cells_cold x l) (sym e))
 
-  pub cold_done : (m : List ℕ) → told ≡ done t → m ≡ cells_of t → (Done ≡ told.answer) × (m ≡ cells_cold told l)
-  unfolding done cells_cold
-  cold_done m e w = (ap (λ (x : Replied). x.answer) (sym e), w ∙ ap (λ (x : Replied). cells_cold x l) (sym e))
-
-module _ (told : StatusRead) (t : Table) (l : List ℕ) where
-  pub read_refused : (k : ℕ) → told ≡ refuse_status k t → (NoStatus k ≡ told.answer) × (l ≡ cells_read told l)
-  unfolding refuse_status cells_read
-  read_refused k e = (ap (λ (x : StatusRead). x.answer) (sym e), ap (λ (x : StatusRead). cells_read x l) (sym e))
-
-  pub read_word : (m : List ℕ) (v w : ℕ) → told ≡ tells w t → v ≡ w → m ≡ cells_with t l → (Word v ≡ told.answer) × (m ≡ cells_read told l)
-  unfolding tells cells_read
-  read_word m v w e q s = (ap Word q ∙ ap (λ (x : StatusRead). x.answer) (sym e), s ∙ ap (λ (x : StatusRead). cells_read x l) (sym e))
+  pub cold_done : (m : List ℕ) (w : A) → told ≡ tells w t → m ≡ cells_of t → (Ok w ≡ told.answer) × (m ≡ cells_cold told l)
+  unfolding tells cells_cold
+  cold_done m w e s = (ap (λ (x : Told (Result A Refusal)). x.answer) (sym e), s ∙ ap (λ (x : Told (Result A Refusal)). cells_cold x l) (sym e))

@@ -9,6 +9,7 @@ ghost use Rattle.cells.specs.Codes.{state_of, latch_byte, latches_of};
 use port::form::State;
 use status::Latches;
 
+// A match: no derive reads a number as a state, and every number is one here.
 pub fn state_of(code: u16) -> State
     ensures { result ≡ state_of code }
 {
@@ -26,23 +27,14 @@ pub fn state_of(code: u16) -> State
     }
 }
 
+// The states stand in the order of their codes. Kept beside `as`: the list of one possible answer names it (`cells_code_of`).
 pub fn code_of(state: State) -> u16
     ensures { result ≡ code_of state }
 {
-    match state {
-        State::Disabled => 0,
-        State::Idle => 1,
-        State::Detecting => 2,
-        State::Backoff => 3,
-        State::Classifying => 4,
-        State::PowerUp => 5,
-        State::PowerOn => 6,
-        State::ErrorDelay => 7,
-        State::TestMode => 8,
-        State::TestError => 9,
-    }
+    state as u16
 }
 
+#[tactic(auto, unfolding(crate::specs::Codes::latches_of, lists::specs::Bits::bit))]
 pub fn latches_of(cell: u16) -> Latches
     ensures { result ≡ latches_of cell }
 {
@@ -59,21 +51,16 @@ pub fn latches_of(cell: u16) -> Latches
 }
 
 // A set latch counts as much as its place.
-fn place(set: bool, value: u16) -> u16
-    ensures { (result ≡ one set * value) × (result ≤ value) }
-{
-    if set { value } else { 0 }
-}
-
+#[tactic(auto, using(lists::proofs::Bits::byte_is, lists::proofs::Bits::byte_small), unfolding(crate::specs::Codes::latch_byte))]
 pub fn latch_cell(latches: Latches) -> u16
     ensures { result ≡ latch_byte latches }
 {
-    place(latches.disagree, 128)
-        + place(latches.over_current, 64)
-        + place(latches.denied, 32)
-        + place(latches.valid, 16)
-        + place(latches.invalid, 8)
-        + place(latches.short, 4)
-        + place(latches.overload, 2)
-        + place(latches.absent, 1)
+    128 * latches.disagree as u16
+        + 64 * latches.over_current as u16
+        + 32 * latches.denied as u16
+        + 16 * latches.valid as u16
+        + 8 * latches.invalid as u16
+        + 4 * latches.short as u16
+        + 2 * latches.overload as u16
+        + latches.absent as u16
 }

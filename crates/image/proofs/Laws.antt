@@ -2,16 +2,19 @@
 -- they were.
 -- Assumes nothing.
 use mathlib.Core.Path.{◌≡◌, refl, sym, ◌∙◌, ap, ap₂}
-use mathlib.Core.Bool.{true}
+use mathlib.Core.Bool.{Bool, true, false, cond, ◌&&◌}
 use mathlib.Core.List.{List, [], ◌∷◌, ◌++◌}
 use mathlib.Core.Logic.{⊎_elim}
 use Prim.Native.Nat.{ℕ, ◌+◌, ◌-◌, ◌*◌, ◌/◌, ◌%◌, ◌≤◌, ◌<◌}
 use native.Mathlib.Omega.{arith}
-use lib.Dec.{ltb, leb, eqb}
+use lib.Dec.{eqb}
 use lib.ListN.{length, get_or}
-use borrow.Author.Tests.{lt-ltb, le-ltb, le-leb, leb-true, ltb-true, eq-eqb, eqb-true}
+use borrow.Author.Tests.{lt-ltb, le-ltb, le-leb, leb-true, eq-eqb, eqb-true}
 use Rattle.lists.specs.Bytes.{word_at}
+use Rattle.std.proofs.Common.{Ok, is_ok}
+use Rattle.sizes.specs.Refused.{refused}
 use Rattle.sizes.specs.Sizes.{most_ports}
+use Rattle.sizes.specs.declared.refusals.Refusal.{Refusal}
 use Rattle.lists.proofs.Every.{every_of}
 use Rattle.lists.specs.Places.{tabulate}
 use Rattle.lists.proofs.Places.{side, length_tabulate, get_d_tabulate, tabulated}
@@ -21,11 +24,11 @@ use Rattle.port.specs.declared.form.Port.{Port}
 use Rattle.table.specs.Parts.{no_port, port_at}
 use Rattle.table.specs.declared.form.Table.{Table}
 use Rattle.cells.specs.Cells.{port_of, table_of, cells_of, cells_long}
-use Rattle.cells.proofs.CodeLaws.{state_back, code_small, code_again, latches_back, latches_small, latches_again}
+use Rattle.cells.proofs.CodeLaws.{state_back, code_small, code_again, latches_back, latches_again}
 use Rattle.cells.specs.Codes.{state_of, latches_of}
 use Rattle.cells.proofs.Round.{cells_long_lem, cells_port, cells_holds, cells_table}
-use Rattle.image.specs.Image.{word, port_bytes, head_bytes, byte_at, image_of, port_saves, imageable, saves, room_after, image_long, image_port}
-use Rattle.image.specs.Load.{counts_in, port_in, port_reads, table_in, reads, restores, cells_restored}
+use Rattle.image.specs.Image.{word, port_bytes, head_bytes, byte_at, image_of, port_saves, imageable, saves, save, room_after, image_long, image_port}
+use Rattle.image.specs.Load.{counts_in, port_in, port_reads, table_in, reads, restores, restore, cells_restored}
 use Rattle.image.proofs.Load.{reads_long, reads_port}
 
 -- what stands at a place of the image: a byte of the head, or of a port
@@ -228,3 +231,22 @@ module _ (bytes : List ℕ) (octets : (k : ℕ) → get_or bytes k 0 < 256) wher
     unfolding room_after
     restored_saved l room fits spare =
         simp (restored_saves l room fits spare) (ap image_of (same l fits) ∙ rewritten)
+
+-- ---- what is answered is Ok exactly where all is saved, or restored
+
+pub save_ok : (l room : List ℕ) → is_ok (save l room) ≡ saves l room
+unfolding save saves
+save_ok l room = both (imageable l) (eqb (length room) image_long)
+  where
+    both : (a b : Bool) → is_ok {T = Unit {0}} {E = Refusal} (cond a (cond b (Ok tt) (refused 1)) (refused 13)) ≡ (a && b)
+    both true true = refl
+    both true false = refl
+    both false b = refl
+
+pub restore_ok : (bytes l : List ℕ) → is_ok (restore bytes l) ≡ restores bytes l
+unfolding restore
+restore_ok bytes l = one_of (restores bytes l)
+  where
+    one_of : (a : Bool) → is_ok {T = Unit {0}} {E = Refusal} (cond a (Ok tt) (refused 13)) ≡ a
+    one_of true = refl
+    one_of false = refl

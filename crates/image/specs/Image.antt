@@ -1,6 +1,8 @@
 -- The image of a table, byte by byte. docs/CONSOLE.md: "1,014 bytes, big-endian: count (2), supply (4), then 48 ports of 21 bytes".
-use Rattle.std.specs.Prelude.{ℕ, ◌+◌, ◌-◌, ◌/◌, ◌%◌, Bool, cond, ◌&&◌, List, [], ◌∷◌, ◌++◌, ltb, eqb, length, get_or}
+use Rattle.std.specs.Prelude.{ℕ, ◌+◌, ◌-◌, ◌/◌, ◌%◌, Bool, cond, ◌&&◌, List, [], ◌∷◌, ◌++◌, ltb, eqb, length, get_or, Result, Ok}
+use Rattle.sizes.specs.Refused.{refused}
 use Rattle.sizes.specs.Sizes.{most_ports}
+use Rattle.sizes.specs.declared.refusals.Refusal.{Refusal}
 use Rattle.lists.specs.Every.{every}
 use Rattle.lists.specs.Places.{tabulate}
 use Rattle.port.specs.declared.form.Counts.{Counts}
@@ -53,6 +55,10 @@ imageable l = eqb (length l) cells_long && every most_ports (port_saves l)
 -- cells that no image holds are not saved, and a room of another length is not written
 unfoldable pub saves : List ℕ → List ℕ → Bool
 saves l room = imageable l && eqb (length room) image_long
+
+-- include/ipaqsuni.h: "Refused: 13 for cells that no image holds (..), then 1 for a room of another length than IPAQSUNI_IMAGE."
+unfoldable pub save : List ℕ → List ℕ → Result Unit Refusal
+save l room = cond (imageable l) (cond (eqb (length room) image_long) (Ok tt) (refused 1)) (refused 13)
 
 unfoldable pub room_after : List ℕ → List ℕ → List ℕ
 room_after l room = cond (saves l room) (image_of (table_of l)) room

@@ -1,7 +1,9 @@
 -- The table that an image is, and which bytes are one.
-use Rattle.std.specs.Prelude.{ℕ, ◌+◌, ◌*◌, Bool, cond, ◌&&◌, List, leb, eqb, length, get_or}
+use Rattle.std.specs.Prelude.{ℕ, ◌+◌, ◌*◌, Bool, cond, ◌&&◌, List, leb, eqb, length, get_or, Result, Ok}
 use Rattle.lists.specs.Bytes.{word_at}
+use Rattle.sizes.specs.Refused.{refused}
 use Rattle.sizes.specs.Sizes.{most_ports}
+use Rattle.sizes.specs.declared.refusals.Refusal.{Refusal}
 use Rattle.image.specs.Image.{image_long, image_port}
 use Rattle.lists.specs.Every.{every}
 use Rattle.lists.specs.Places.{tabulate}
@@ -50,6 +52,10 @@ reads bytes = eqb (length bytes) image_long && (eqb (word_at bytes 2) 0 && every
 -- bytes are restored if they are an image and the cells are as many as a table's, whatever these hold
 unfoldable pub restores : List ℕ → List ℕ → Bool
 restores bytes l = reads bytes && eqb (length l) cells_long
+
+-- include/ipaqsuni.h: "Refused: 13 for bytes that are no image (..) and for another number of cells than IPAQSUNI_CELLS."
+unfoldable pub restore : List ℕ → List ℕ → Result Unit Refusal
+restore bytes l = cond (restores bytes l) (Ok tt) (refused 13)
 
 -- the cells afterwards: the image's table, and 0 in every cell that is nobody's; if nothing is restored, as they were
 unfoldable pub cells_restored : List ℕ → List ℕ → List ℕ

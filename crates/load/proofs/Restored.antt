@@ -13,14 +13,13 @@ use Rattle.lists.specs.Bytes.{word_at}
 use Rattle.sizes.specs.Sizes.{most_ports}
 use Rattle.image.specs.Image.{image_port}
 use Rattle.lists.proofs.Places.{get_d_tabulate}
-use Rattle.lists.proofs.Tests.{and_left, and_right}
 use Rattle.port.specs.States.{code_of}
 use Rattle.port.specs.declared.form.Port.{Port}
 use Rattle.table.specs.Parts.{no_port, port_at}
 use Rattle.cells.specs.Cells.{port_of, port_holds, written, cells_of, cells_long}
 use Rattle.cells.proofs.CodeLaws.{code_again}
 use Rattle.cells.specs.Codes.{state_of}
-use Rattle.cells.proofs.Laws.{written_self, written_cong, written_long}
+use Rattle.cells.proofs.Laws.{written_self, written_cong}
 use Rattle.cells.proofs.Pass.{stage, pass_none, pass_more, pass_all}
 use Rattle.cells.specs.Writes.{with_port_cells}
 use Rattle.image.specs.Load.{port_in, port_reads, table_in}
@@ -63,9 +62,6 @@ module _ (bytes : List ℕ) where
 
   pub put_none : Put bytes 0 (bare bytes)
   put_none = pass_none most_ports (port_for bytes) (port_of (bare bytes)) (bare bytes) (le_refl most_ports) long (written_self most_ports (bare bytes) (le_refl most_ports) long bare_holds)
-
-  pub put_long : (i : ℕ) (l : List ℕ) → Put bytes i l → length l ≡ cells_long
-  put_long i l e = ap length e ∙ written_long most_ports (stage i (port_for bytes) (port_of (bare bytes))) (bare bytes) ∙ bare_long
 
   pub put_more : (i : ℕ) (l : List ℕ) → Put bytes i l → i < most_ports → Put bytes (i + 1) (with_port_cells i (port_for bytes i) l)
   put_more i l e h = pass_more most_ports (port_for bytes) (port_of (bare bytes)) (bare bytes) (le_refl most_ports) long i l e h (port_for bytes i) refl

@@ -1,23 +1,26 @@
 // From the bytes of an image to the cells of its table.
 #![tactic(auto)]
 
-ghost use Rattle.std.specs.Prelude.{◌≡◌, true, ◌+◌, ◌<◌, length, replicate};
+ghost use Rattle.std.specs.Prelude.{◌≡◌, true, ◌+◌, ◌<◌, length};
 ghost use Rattle.lists.specs.Bytes.{word_at};
 ghost use Rattle.sizes.specs.Sizes.{most_ports};
 ghost use Rattle.cells.specs.Cells.{cells_of, cells_long};
 ghost use Rattle.cells.specs.Writes.{with_port_cells, with_count_cells};
-ghost use Rattle.image.specs.Load.{counts_in, port_in, port_reads, table_in, reads, restores, cells_restored};
+ghost use Rattle.image.specs.Load.{counts_in, port_in, port_reads, table_in, reads, restore, cells_restored};
 
+use sizes::refusals::Refusal;
 use sizes::{CELLS, IMAGE, IMAGE_PORT, PORTS};
 
+#[tactic(auto, unfolding(lists::specs::Bytes::word_at))]
 fn word_at(bytes: &[u8], at: usize) -> u16
     requires { at + 1 < length bytes.now }
     ensures { result ≡ word_at bytes.now at }
 {
-    bytes[at] as u16 * 256 + bytes[at + 1] as u16
+    u16::from_be_bytes([bytes[at], bytes[at + 1]])
 }
 
 // Any byte is latches.
+#[tactic(auto, unfolding(image::specs::Load::port_reads))]
 fn port_reads(bytes: &[u8], at: usize) -> bool
     requires { at < length bytes.now }
     ensures { result ≡ port_reads bytes.now at }
@@ -25,6 +28,7 @@ fn port_reads(bytes: &[u8], at: usize) -> bool
     bytes[at] <= 9
 }
 
+#[tactic(auto, unfolding(image::specs::Load::reads))]
 fn reads(bytes: &[u8]) -> bool
     ensures { result ≡ reads bytes.now }
 {
@@ -34,28 +38,16 @@ fn reads(bytes: &[u8]) -> bool
     if word_at(bytes, 2) != 0 {
         return false;
     }
-    let mut p = 0;
-    while p < PORTS {
+    for p in 0..PORTS {
         if !port_reads(bytes, 6 + IMAGE_PORT * p) {
             return false;
         }
-        p += 1;
     }
     true
 }
 
-// What is nobody's is 0.
-fn clear(cells: &mut [u16])
-    requires { length cells.old ≡ cells_long }
-    ensures { cells.new ≡ replicate cells_long 0 }
-{
-    let mut k = 0;
-    while k < CELLS {
-        cells[k] = 0;
-        k += 1;
-    }
-}
-
+// The cells stay a slice, with their number in the premises: must-fail/fewer_cells_taken.edit hands over fewer.
+#[tactic(auto, unfolding(cells::specs::Writes::writes, cells::specs::Writes::with_count_cells, image::specs::Load::counts_in))]
 fn put_counts(bytes: &[u8], at: usize, cells: &mut [u16], p: usize)
     requires at_in_bounds { at + 13 < length bytes.now }
     requires cells_len { length cells.old ≡ cells_long }
@@ -92,27 +84,24 @@ fn put(bytes: &[u8], cells: &mut [u16])
     requires cells_len { length cells.old ≡ cells_long }
     ensures { cells.new ≡ cells_of (table_in bytes.now) }
 {
-    clear(cells);
+    // What is nobody's is 0.
+    cells.fill(0);
     cells[0] = word_at(bytes, 0);
     cells[1] = word_at(bytes, 4);
-    let mut p = 0;
-    while p < PORTS {
+    for p in 0..PORTS {
         put_port(bytes, 6 + IMAGE_PORT * p, cells, p);
-        p += 1;
     }
 }
 
 // All is looked at before the first cell is written. What the cells held is of no matter.
-pub fn load(bytes: &[u8], cells: &mut [u16]) -> bool
-    ensures value { result ≡ restores bytes.now cells.old }
+#[tactic(auto, unfolding(image::specs::Load::restore, image::specs::Load::restores, image::specs::Load::cells_restored))]
+pub fn load(bytes: &[u8], cells: &mut [u16]) -> Result<(), Refusal>
+    ensures value { result ≡ restore bytes.now cells.old }
     ensures cells_after { cells.new ≡ cells_restored bytes.now cells.old }
 {
-    if cells.len() != CELLS {
-        return false;
-    }
-    if !reads(bytes) {
-        return false;
+    if cells.len() != CELLS || !reads(bytes) {
+        return Err(Refusal::IllMade);
     }
     put(bytes, cells);
-    true
+    Ok(())
 }

@@ -1,32 +1,36 @@
 -- What is proved of specs/OnLaws.
 -- Assumes nothing.
-use Prim.Native.Nat.{ℕ, ◌+◌, ◌≤◌, ◌<◌}
+use Prim.Native.Nat.{ℕ, ◌+◌, ◌<◌}
 use mathlib.Core.Path.{◌≡◌, refl, sym, ◌∙◌, ap}
 use mathlib.Core.Bool.{Bool, true, false, cond}
-use mathlib.Core.List.{List, [], ◌∷◌}
+use mathlib.Core.List.{List, ◌∷◌}
 use native.Mathlib.Omega.{arith}
 use lib.Dec.{eqb, leb}
-use lib.ListN.{get_or, set, drop}
-use borrow.Author.Tests.{le-leb, lt-leb, eqb-true, eqb-false}
+use lib.ListN.{get_or, set}
+use borrow.Author.Tests.{lt-leb, leb-false, eqb-true, eqb-false}
+use Rattle.std.specs.Prelude.{Result, Ok, Err}
+use Rattle.sizes.specs.Refused.{refusal}
 use Rattle.sizes.specs.Sizes.{most_ports}
+use Rattle.sizes.specs.declared.refusals.Refusal.{Refusal}
 use Rattle.lists.specs.Ladder.{ladder}
 use Rattle.power.specs.Power.{tenths}
 use Rattle.power.specs.declared.Power.{Power}
 use Rattle.port.specs.States.{closed, in_power_on}
 use Rattle.port.specs.declared.form.Port.{Port}
 use Rattle.table.specs.Drawn.{draws}
-use Rattle.table.specs.Parts.{port_at, with_port, done, refuse, refuse_status}
+use Rattle.table.specs.Parts.{Told, port_at, with_port, refuse}
 use Rattle.table.specs.WellMade.{ill_made}
 use Rattle.cells.specs.Cells.{count_cell, port_of, table_of, is_table, cells_with}
 use Rattle.cells.specs.Codes.{state_of, latch_byte, latches_of}
 use Rattle.cells.proofs.CodeLaws.{power_on_code}
 use Rattle.cells.proofs.Laws.{table_at}
 use Rattle.cells.proofs.Single.{single, with_port_same, with_port_other}
-use Rattle.well.specs.Judged.{well_cells}
+use Rattle.cells.specs.Lent.{cells_told}
+use Rattle.cells.proofs.LentLaws.{told_refused}
+use Rattle.well.specs.Judged.{well_cells, port_named}
 use Rattle.well.proofs.Laws.{cells_of, ill_cells_lem, well_goes}
-use Rattle.replies.specs.Calls.{with_control, control_refusals, write_control, unlatched, status_at, read_status, level_of, demanding, granting, request_refusals, request}
-use Rattle.replies.specs.OnCells.{control_on, status_on, request_on}
-use Rattle.replies.specs.Rest.{AtPort, control_rest, request_rest}
+use Rattle.replies.specs.Calls.{with_control, unlatched, demanding, granting}
+use Rattle.replies.specs.Rest.{AtPort}
 
 pub at_port : (l : List ℕ) (p : ℕ) → well_cells l ≡ true → p < count_cell l → AtPort l p
 at_port l p e h = let c = cells_of l e in record { well = e; below = h; few = c.few_ports; long = c.long; class = c.class p h }
@@ -60,57 +64,41 @@ module _ (l : List ℕ) (p : ℕ) (a : AtPort l p) where
   pub power_on_at_lem : in_power_on (port_at (table_of l) p).state ≡ eqb (get_or l (8 + p) 0) 6
   power_on_at_lem = ap in_power_on state_at ∙ power_on_code (get_or l (8 + p) 0)
 
-module _ {X : Type 0} (l : List ℕ) (p : ℕ) (rs : List (ℕ × Bool)) (refuse : ℕ → X) (value : X) (e : well_cells l ≡ true) where
-  -- every call that names a port
-  abbrev call : X
-  call = cond (is_table l) (ladder ((13, ill_made (table_of l)) ∷ (2, leb (table_of l).count p) ∷ rs) refuse value) (refuse 13)
+-- what a call knows of the port that it is told
+pub record Named (l : List ℕ) (n p : ℕ) : Type 0 where
+  pub same : p ≡ n
+  pub well : well_cells l ≡ true
+  pub below : n < count_cell l
 
-  no_port_lem : count_cell l ≤ p → call ≡ refuse 2
+pub named : (l : List ℕ) (n p : ℕ) → port_named l n ≡ Ok p → Named l n p
+unfolding port_named
+named l n p e = go (well_cells l) refl (leb (count_cell l) n) refl
+  where
+    go : (a : Bool) → well_cells l ≡ a → (b : Bool) → leb (count_cell l) n ≡ b → Named l n p
+    go false f b g = let h = simp f at e in cc
+    go true f true g = let h = simp (f, g) at e in cc
+    go true f false g = let h = simp (f, g) at e in record { same = cc; well = f; below = leb-false (count_cell l) n g }
+
+-- every call that names a port: 13 and 2, and then what the ladder asks of it
+module _ {A : Type 0} (l : List ℕ) (n : ℕ) (rs : List (ℕ × Bool)) (value : Told (Result A Refusal)) where
+  abbrev call : Told (Result A Refusal)
+  call = cond (is_table l) (ladder ((13, ill_made (table_of l)) ∷ (2, leb (table_of l).count n) ∷ rs) (λ k. refuse k (table_of l)) value) (refuse 13 (table_of l))
+
+  pub call_refuses : (r : Refusal) → port_named l n ≡ Err r → (Err r ≡ call.answer) × (l ≡ cells_told call l)
+  unfolding port_named table_of
+  call_refuses r e = go (well_cells l) refl (leb (count_cell l) n) refl
+    where
+      with_number : (k : ℕ) → call ≡ refuse k (table_of l) → refusal k ≡ r → (Err r ≡ call.answer) × (l ≡ cells_told call l)
+      with_number k q s = let told = told_refused call (table_of l) l k q in (ap (λ (x : Refusal). Err x) (sym s) ∙ told.0, told.1)
+
+      go : (a : Bool) → well_cells l ≡ a → (b : Bool) → leb (count_cell l) n ≡ b → (Err r ≡ call.answer) × (l ≡ cells_told call l)
+      go false f b g = with_number 13 (ill_cells_lem l ((2, leb (table_of l).count n) ∷ rs) (λ k. refuse k (table_of l)) value f) (let h = simp f at e in cc)
+      go true f true g = with_number 2 (well_goes l ((2, leb (table_of l).count n) ∷ rs) (λ k. refuse k (table_of l)) value f ∙ simp g) (let h = simp (f, g) at e in cc)
+      go true f false g = let h = simp (f, g) at e in cc
+
+  pub call_goes : well_cells l ≡ true → n < count_cell l → call ≡ ladder rs (λ k. refuse k (table_of l)) value
   unfolding table_of
-  no_port_lem h = well_goes l ((2, leb (table_of l).count p) ∷ rs) refuse value e ∙ simp (le-leb (count_cell l) p h)
-
-  goes : p < count_cell l → call ≡ ladder rs refuse value
-  unfolding table_of
-  goes h = well_goes l ((2, leb (table_of l).count p) ∷ rs) refuse value e ∙ simp (lt-leb (count_cell l) p h)
-
-module _ (l : List ℕ) (p w : ℕ) where
-  pub control_ill : well_cells l ≡ false → control_on l p w ≡ refuse 13 (table_of l)
-  unfolding control_on write_control
-  control_ill e = ill_cells_lem l (drop 1 (control_refusals (table_of l) p w)) (λ k. refuse k (table_of l)) (done (with_port p (with_control w (port_at (table_of l) p)) (table_of l))) e
-
-  pub control_no_port : well_cells l ≡ true → count_cell l ≤ p → control_on l p w ≡ refuse 2 (table_of l)
-  unfolding control_on write_control
-  control_no_port = no_port_lem l p (drop 2 (control_refusals (table_of l) p w)) (λ k. refuse k (table_of l)) (done (with_port p (with_control w (port_at (table_of l) p)) (table_of l)))
-
-  pub control_goes : well_cells l ≡ true → p < count_cell l → control_on l p w ≡ control_rest l p w
-  unfolding control_on write_control
-  control_goes = goes l p (drop 2 (control_refusals (table_of l) p w)) (λ k. refuse k (table_of l)) (done (with_port p (with_control w (port_at (table_of l) p)) (table_of l)))
-
-module _ (l : List ℕ) (p : ℕ) where
-  pub status_ill : well_cells l ≡ false → status_on l p ≡ refuse_status 13 (table_of l)
-  unfolding status_on read_status
-  status_ill e = ill_cells_lem l ((2, leb (table_of l).count p) ∷ []) (λ k. refuse_status k (table_of l)) (status_at p (table_of l)) e
-
-  pub status_no_port : well_cells l ≡ true → count_cell l ≤ p → status_on l p ≡ refuse_status 2 (table_of l)
-  unfolding status_on read_status
-  status_no_port = no_port_lem l p [] (λ k. refuse_status k (table_of l)) (status_at p (table_of l))
-
-  pub status_goes : well_cells l ≡ true → p < count_cell l → status_on l p ≡ status_at p (table_of l)
-  unfolding status_on read_status
-  status_goes = goes l p [] (λ k. refuse_status k (table_of l)) (status_at p (table_of l))
-
-module _ (l : List ℕ) (p v : ℕ) where
-  pub request_ill : well_cells l ≡ false → request_on l p v ≡ refuse 13 (table_of l)
-  unfolding request_on request
-  request_ill e = ill_cells_lem l (drop 1 (request_refusals (table_of l) p v)) (λ k. refuse k (table_of l)) (done (granting (level_of v) p (table_of l))) e
-
-  pub request_no_port : well_cells l ≡ true → count_cell l ≤ p → request_on l p v ≡ refuse 2 (table_of l)
-  unfolding request_on request
-  request_no_port = no_port_lem l p (drop 2 (request_refusals (table_of l) p v)) (λ k. refuse k (table_of l)) (done (granting (level_of v) p (table_of l)))
-
-  pub request_goes : well_cells l ≡ true → p < count_cell l → request_on l p v ≡ request_rest l p v
-  unfolding request_on request
-  request_goes = goes l p (drop 2 (request_refusals (table_of l) p v)) (λ k. refuse k (table_of l)) (done (granting (level_of v) p (table_of l)))
+  call_goes e h = well_goes l ((2, leb (table_of l).count n) ∷ rs) (λ k. refuse k (table_of l)) value e ∙ simp (lt-leb (count_cell l) n h)
 
 module _ (l : List ℕ) (e : well_cells l ≡ true) (p : ℕ) (h : p < count_cell l) where
   -- ---- the one cell that each writes

@@ -1,17 +1,13 @@
 -- The table by its places, and what its calls answer.
-use Rattle.std.specs.Prelude.{ℕ, get_or, set}
+use Rattle.std.specs.Prelude.{ℕ, get_or, set, Result, Ok}
+use Rattle.sizes.specs.Refused.{refused}
+use Rattle.sizes.specs.declared.refusals.Refusal.{Refusal}
 use Rattle.power.specs.Power.{zero_power}
 use Rattle.status.specs.Status.{no_latches}
 use Rattle.port.specs.declared.form.Counts.{Counts}
 use Rattle.port.specs.declared.form.Port.{Port}
 use Rattle.port.specs.declared.form.State.TheVariants.{Disabled}
 use Rattle.table.specs.declared.form.Table.{Table}
-use Rattle.table.specs.declared.form.Answer.TheVariants.{Done, Refused}
-use Rattle.table.specs.declared.form.Replied.{Replied}
-use Rattle.table.specs.declared.form.Status.TheVariants.{Word, Refused as NoStatus}
-use Rattle.table.specs.declared.form.StatusRead.{StatusRead}
-use Rattle.table.specs.declared.form.Closed.TheVariants.{Refused as NoTick}
-use Rattle.table.specs.declared.form.Ticked.{Ticked}
 
 abbrev pub zero_counts : Counts
 zero_counts = record { detection = 0; backoff = 0; error_delay = 0; power_on = 0; limiting = 0; overload = 0; no_load = 0 }
@@ -28,18 +24,18 @@ port_at t p = get_or t.ports p no_port
 unfoldable pub with_port : ℕ → Port → Table → Table
 with_port p port t = record { ports = set t.ports p port; count = t.count; supply = t.supply }
 
--- an answer with the table as it is then; "The table comes back unchanged" with a refusal
-unfoldable pub done : Table → Replied
-done t = record { table = t; answer = Done }
+-- an answer with the table as it is then
+pub record Told (A : Type 0) : Type 0 where
+  pub table : Table
+  pub answer : A
 
-unfoldable pub refuse : ℕ → Table → Replied
-refuse number t = record { table = t; answer = Refused number }
+unfoldable pub tells : {A : Type 0} → A → Table → Told (Result A Refusal)
+tells answer t = record { table = t; answer = Ok answer }
 
-unfoldable pub tells : ℕ → Table → StatusRead
-tells word t = record { table = t; answer = Word word }
+-- a call that answers no more than that it is done
+abbrev pub done : Table → Told (Result Unit Refusal)
+done t = tells tt t
 
-unfoldable pub refuse_status : ℕ → Table → StatusRead
-refuse_status number t = record { table = t; answer = NoStatus number }
-
-unfoldable pub refuse_tick : ℕ → Table → Ticked
-refuse_tick number t = record { table = t; answer = NoTick number }
+-- "The table comes back unchanged" with a refusal
+unfoldable pub refuse : {A : Type 0} → ℕ → Table → Told (Result A Refusal)
+refuse number t = record { table = t; answer = refused number }

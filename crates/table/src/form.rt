@@ -1,4 +1,4 @@
-// The table, and what its calls answer. An answer stands beside the table, and a refusal is document 01's number.
+// The table, and what a tick answers of it. A refusal is document 01's, by its name.
 use port::form::Port;
 use power::Power;
 use sizes::PORTS;
@@ -12,39 +12,10 @@ pub struct Table {
     pub supply: Power,
 }
 
-#[derive(Clone, Copy)]
-pub enum Answer {
-    Done,
-    Refused(u8),
-}
-
-#[derive(Drop)]
-pub struct Replied {
-    pub table: Table,
-    pub answer: Answer,
-}
-
-#[derive(Clone, Copy)]
-pub enum Status {
-    Word(u16),
-    Refused(u8),
-}
-
-#[derive(Drop)]
-pub struct StatusRead {
-    pub table: Table,
-    pub answer: Status,
-}
-
-#[derive(Clone, Copy)]
-pub enum Closed {
-    // The closed ports on alternative A, those on alternative B, and how many they are.
-    Ports(u64, u64, u32),
-    Refused(u8),
-}
-
-#[derive(Drop)]
-pub struct Ticked {
-    pub table: Table,
-    pub answer: Closed,
+// The closed ports on alternative A, those on alternative B, and how many they are.
+#[derive(Clone, Copy, PartialEq, Eq)]
+pub struct Closed {
+    pub a: u64,
+    pub b: u64,
+    pub number: u32,
 }

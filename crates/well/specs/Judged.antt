@@ -1,5 +1,7 @@
 -- Refusal 13 over lent cells.
-use Rattle.std.specs.Prelude.{ℕ, Bool, ◌&&◌, List, eqb, length}
+use Rattle.std.specs.Prelude.{ℕ, Bool, cond, ◌&&◌, List, eqb, leb, length, Result, Ok}
+use Rattle.sizes.specs.Refused.{refused}
+use Rattle.sizes.specs.declared.refusals.Refusal.{Refusal}
 use Rattle.power.specs.Power.{tenths}
 use Rattle.table.specs.Head.{well_head}
 use Rattle.table.specs.WellMade.{well_port, well_made}
@@ -16,3 +18,7 @@ well_cells l = is_table l && well_made (table_of l)
 -- a port's part of it
 unfoldable pub port_fine : List ℕ → ℕ → Bool
 port_fine l p = port_holds l p && well_port (port_of l p)
+
+-- "13 first"; then 2, "port number not below the port count"
+unfoldable pub port_named : List ℕ → ℕ → Result ℕ Refusal
+port_named l n = cond (well_cells l) (cond (leb (count_cell l) n) (refused 2) (Ok n)) (refused 13)

@@ -10,10 +10,11 @@ ghost use Rattle.class.specs.Class.{is_demand};
 ghost use Rattle.control.specs.Control.{refused};
 ghost use Rattle.table.specs.Head.{well_counts, well_head};
 ghost use Rattle.cells.specs.Cells.{cells_long, counts_of};
-ghost use Rattle.well.specs.Judged.{port_fine, head_cells, well_cells};
+ghost use Rattle.well.specs.Judged.{port_fine, head_cells, well_cells, port_named};
 
 use class::BUDGETS;
 use power::Power;
+use sizes::refusals::Refusal;
 use sizes::{CELLS, MOST_COUNT, PORTS_16};
 
 // A demand is none, or the budget of a class; class 0 has the budget of class 3.
@@ -37,28 +38,22 @@ fn demand_fine(demand: u16) -> bool
     (demand == 0) | (demand == FIRST) | (demand == SECOND) | (demand == THIRD) | (demand == FOURTH)
 }
 
-fn greater(a: u16, b: u16) -> u16
-    ensures { result ≡ max a b }
-{
-    if a < b { b } else { a }
-}
-
 // The greatest counter: one comparison for seven.
-fn top(cells: &[u16], p: usize) -> u16
-    requires { (length cells.now ≡ cells_long) × (p < most_ports) }
+fn top(cells: &[u16; CELLS], p: usize) -> u16
+    requires { p < most_ports }
     ensures { leb result most_count ≡ well_counts (counts_of cells.now p) }
 {
-    greater(
-        greater(
-            greater(cells[248 + p], cells[296 + p]),
-            greater(cells[344 + p], cells[392 + p]),
-        ),
-        greater(greater(cells[440 + p], cells[488 + p]), cells[536 + p]),
-    )
+    cells[248 + p]
+        .max(cells[296 + p])
+        .max(cells[344 + p])
+        .max(cells[392 + p])
+        .max(cells[440 + p])
+        .max(cells[488 + p])
+        .max(cells[536 + p])
 }
 
-fn port_fine(cells: &[u16], p: usize) -> bool
-    requires { (length cells.now ≡ cells_long) × (p < most_ports) }
+fn port_fine(cells: &[u16; CELLS], p: usize) -> bool
+    requires { p < most_ports }
     ensures { result ≡ port_fine cells.now p }
 {
     (top(cells, p) <= MOST_COUNT)
@@ -69,13 +64,7 @@ fn port_fine(cells: &[u16], p: usize) -> bool
         & (cells[200 + p] < 256)
 }
 
-// What is fine is a number, which adds up eight at a time; a flag would be one after the other.
-fn counts(fine: bool) -> u16
-    ensures { (result ≡ one fine) × (result ≤ 1) }
-{
-    if fine { 1 } else { 0 }
-}
-
+#[tactic(auto, unfolding(table::specs::Head::well_head, power::specs::Power::at_most))]
 fn head_fine(count: u16, supply: u16) -> bool
     ensures { result ≡ well_head count (tenths supply) }
 {
@@ -84,28 +73,41 @@ fn head_fine(count: u16, supply: u16) -> bool
 }
 
 // What a call may go by that looks at the ports itself.
+#[tactic(auto, unfolding(crate::specs::Judged::head_cells))]
 pub fn well_head(cells: &[u16]) -> bool
     ensures { result ≡ head_cells cells.now }
 {
-    if cells.len() != CELLS {
-        return false;
-    }
-    head_fine(cells[0], cells[1])
+    cells.len() == CELLS && head_fine(cells[0], cells[1])
 }
 
-// All ports below the count are looked at, and the answer is given at the end: what stands past the count may be anything.
+// All ports below the count are looked at, and the answer is given at the end: what stands past the count may be anything. What is fine is
+// a number, which adds up eight at a time; a flag would be one after the other.
 pub fn well_made(cells: &[u16]) -> bool
     ensures { result ≡ well_cells cells.now }
 {
-    if !well_head(cells) {
+    let Some(cells) = cells.as_array::<CELLS>() else {
+        return false;
+    };
+    if !head_fine(cells[0], cells[1]) {
         return false;
     }
     let n = cells[0] as usize;
-    let mut fine = 0u16;
-    let mut p = 0;
-    while p < n {
-        fine = fine + counts(port_fine(cells, p));
-        p += 1;
+    let mut fine = 0;
+    for p in 0..n {
+        fine += port_fine(cells, p) as u16;
     }
     fine as usize == n
+}
+
+// What every call that names a port asks first: 13, and then 2.
+pub fn port_named(cells: &[u16], port: u64) -> Result<usize, Refusal>
+    ensures { result ≡ port_named cells.now port }
+{
+    if !well_made(cells) {
+        return Err(Refusal::IllMade);
+    }
+    if cells[0] as u64 <= port {
+        return Err(Refusal::NoSuchPort);
+    }
+    Ok(port as usize)
 }
