@@ -1,10 +1,10 @@
 -- What a tick is told of a port by this board's sample.
-use Rattle.std.specs.Prelude.{cond}
+use Rattle.std.specs.Prelude.{ℕ, cond, Result, Ok, Err}
 use Rattle.class.specs.Class.{class_of_two, budget_of}
 use Rattle.sample.specs.Sample.{flags_of}
 use Rattle.signature.specs.Signature.{signature_of}
-use Rattle.class.specs.declared.Events.{Events}
-use Rattle.class.specs.declared.Events.TheVariants.{Is, OverCurrent, Disagree}
+use Rattle.class.specs.declared.Failure.{Failure}
+use Rattle.class.specs.declared.Failure.TheVariants.{OverCurrent, Disagree}
 use Rattle.sample.specs.declared.Sample.{Sample}
 use Rattle.signature.specs.declared.Signature.{Signature}
 use Rattle.signature.specs.declared.Signature.TheVariants.{Valid, Invalid, Open}
@@ -20,10 +20,10 @@ detection_of Invalid = DetectedInvalid
 detection_of Open = DetectedOpen
 
 -- a class with its budget, or which failure
-abbrev pub classing_of : Events → Classing
-classing_of (Is k) = Classed k (budget_of k)
-classing_of OverCurrent = ClassedOver
-classing_of Disagree = ClassedApart
+abbrev pub classing_of : Result ℕ Failure → Classing
+classing_of (Ok k) = Classed k (budget_of k)
+classing_of (Err OverCurrent) = ClassedOver
+classing_of (Err Disagree) = ClassedApart
 
 -- the flags say whether detection and class are done; where they are not, their numbers are not looked at
 unfoldable pub digest : Sample → Reading

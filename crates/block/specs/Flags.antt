@@ -1,6 +1,6 @@
 -- The flags of a sample block, as a tick reads them into a lane of 48 numbers.
 -- Assumes nothing.
-use Rattle.std.specs.Prelude.{ℕ, ◌+◌, ◌*◌, Bool, cond, not, ◌&&◌, List, ltb, leb, eqb, length, get_or, set}
+use Rattle.std.specs.Prelude.{ℕ, zero, suc, ◌+◌, ◌*◌, Bool, cond, not, ◌&&◌, List, ltb, leb, eqb, length, get_or, set}
 use Rattle.sizes.specs.Sizes.{most_ports, sample_bytes}
 use Rattle.lists.specs.Every.{every}
 use Rattle.lists.specs.Places.{tabulate}
@@ -29,19 +29,16 @@ flags_clean n block lane = flags_fit n block lane && flags_fine n block
 unfoldable pub flags_laid : ℕ → List ℕ → List ℕ → List ℕ
 flags_laid n block lane = cond (flags_fit n block lane) (flag_lane n block lane) lane
 
--- ---- eight ports at a time
+-- ---- some ports at a time
 
 -- a word of flags below 64 has no reserved bit set
 abbrev pub low : List ℕ → ℕ → Bool
 low block p = ltb (flags_of_port block p) 64
 
-abbrev pub eight_of : (ℕ → Bool) → ℕ → Bool
-eight_of f i = ((((((f i && f (i + 1)) && f (i + 2)) && f (i + 3)) && f (i + 4)) && f (i + 5)) && f (i + 6)) && f (i + 7)
+-- so many ports from one on, each tested and laid
+unfoldable pub some_fine : List ℕ → ℕ → ℕ → Bool
+some_fine block from many = every many (λ k. low block (from + k))
 
-abbrev pub eight_fine : List ℕ → ℕ → Bool
-eight_fine block i = eight_of (low block) i
-
-abbrev pub eight_laid : List ℕ → ℕ → List ℕ → List ℕ
-eight_laid block i lane =
-    let at : ℕ → List ℕ → List ℕ = λ p l. set l p (flags_of_port block p) in
-    at (i + 7) (at (i + 6) (at (i + 5) (at (i + 4) (at (i + 3) (at (i + 2) (at (i + 1) (at i lane)))))))
+unfoldable pub some_laid : List ℕ → ℕ → ℕ → List ℕ → List ℕ
+some_laid block from zero lane = lane
+some_laid block from (suc many) lane = set (some_laid block from many lane) (from + many) (flags_of_port block (from + many))

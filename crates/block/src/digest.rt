@@ -4,7 +4,7 @@ ghost use Rattle.class.specs.Class.{class_of_two};
 ghost use Rattle.signature.specs.Signature.{signature_of};
 ghost use Rattle.block.specs.Digest.{detection_of, classing_of, digest};
 
-use class::{Events, budget, class_of_two};
+use class::{Failure, budget, class_of_two};
 use port::form::{Classing, Detection, Reading};
 use sample::{Sample, flags_of};
 use signature::{Signature, signature_of};
@@ -19,13 +19,13 @@ fn detection_of(signature: Signature) -> Detection
     }
 }
 
-fn classing_of(events: Events) -> Classing
-    ensures { result ≡ classing_of events }
+fn classing_of(shown: Result<u8, Failure>) -> Classing
+    ensures { result ≡ classing_of shown }
 {
-    match events {
-        Events::Is(k) => Classing::Is(k, budget(k)),
-        Events::OverCurrent => Classing::OverCurrent,
-        Events::Disagree => Classing::Disagree,
+    match shown {
+        Ok(k) => Classing::Is(k, budget(k)),
+        Err(Failure::OverCurrent) => Classing::OverCurrent,
+        Err(Failure::Disagree) => Classing::Disagree,
     }
 }
 
@@ -33,22 +33,23 @@ fn detection(done: bool, s: Sample) -> Detection
     ensures { result ≡ cond done (detection_of (signature_of s.v1 s.v2 s.i1 s.i2)) Detection.NotDone }
 {
     if done {
-        return detection_of(signature_of(s.v1, s.v2, s.i1, s.i2));
+        detection_of(signature_of(s.v1, s.v2, s.i1, s.i2))
+    } else {
+        Detection::NotDone
     }
-    Detection::NotDone
 }
 
 fn classing(done: bool, s: Sample) -> Classing
     ensures { result ≡ cond done (classing_of (class_of_two s.c1 s.c2).shown) Classing.NotDone }
 {
     if done {
-        let reading = class_of_two(s.c1, s.c2);
-        let shown = reading.shown;
-        return classing_of(shown);
+        classing_of(class_of_two(s.c1, s.c2).shown)
+    } else {
+        Classing::NotDone
     }
-    Classing::NotDone
 }
 
+#[tactic(auto, unfolding(crate::specs::Digest::digest))]
 pub fn digest_of(sample: Sample) -> Reading
     ensures { result ≡ digest sample }
 {

@@ -4,8 +4,9 @@ use Prim.Native.Nat.{ℕ}
 use mathlib.Core.Path.{◌≡◌, refl}
 use mathlib.Core.Bool.{Bool, true, false, cond}
 use Rattle.sample.specs.Sample.{flags_of}
-use Rattle.class.specs.declared.Events.{Events}
-use Rattle.class.specs.declared.Events.TheVariants.{Is, OverCurrent, Disagree}
+use Rattle.std.specs.Prelude.{Result, Ok, Err}
+use Rattle.class.specs.declared.Failure.{Failure}
+use Rattle.class.specs.declared.Failure.TheVariants.{OverCurrent, Disagree}
 use Rattle.sample.specs.declared.Sample.{Sample}
 use Rattle.signature.specs.declared.Signature.{Signature}
 use Rattle.signature.specs.declared.Signature.TheVariants.{Valid, Invalid, Open}
@@ -32,10 +33,10 @@ done true Invalid = refl
 done true Open = refl
 done false s = refl
 
-classed : (b : Bool) (k : Events) → is_classed (cond b (classing_of k) NotClassed) ≡ b
-classed true (Is k) = refl
-classed true OverCurrent = refl
-classed true Disagree = refl
+classed : (b : Bool) (k : Result ℕ Failure) → is_classed (cond b (classing_of k) NotClassed) ≡ b
+classed true (Ok k) = refl
+classed true (Err OverCurrent) = refl
+classed true (Err Disagree) = refl
 classed false k = refl
 
 pub signs_in_lem : (s : Sample) → signs_of (digest s) ≡ signs_in s.flags

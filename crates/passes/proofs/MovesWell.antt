@@ -10,8 +10,9 @@ use Rattle.lists.proofs.Tests.{choice}
 use Rattle.power.specs.Power.{forced}
 use Rattle.class.specs.Class.{is_demand, class_of_two}
 use Rattle.class.proofs.Laws.{budget_is_demand, at_most_four, class_of_two_at_most_four}
-use Rattle.class.specs.declared.Events.{Events}
-use Rattle.class.specs.declared.Events.TheVariants.{Is, OverCurrent, Disagree}
+use Rattle.std.specs.Prelude.{ℕ, Result, Ok, Err}
+use Rattle.class.specs.declared.Failure.{Failure}
+use Rattle.class.specs.declared.Failure.TheVariants.{OverCurrent, Disagree}
 use Rattle.sample.specs.declared.Sample.{Sample}
 use Rattle.sample.specs.Sample.{flags_of}
 use Rattle.status.specs.declared.Latches.{Latches}
@@ -38,10 +39,10 @@ WellClass ClassedOver = Unit {0}
 WellClass ClassedApart = Unit {0}
 WellClass (Classed k d) = (k ≤ 4) × (is_demand d ≡ true)
 
-classing_well : (x : Events) → at_most_four x ≡ true → WellClass (classing_of x)
-classing_well (Is k) e = (leb-true k 4 e, budget_is_demand k)
-classing_well OverCurrent e = tt
-classing_well Disagree e = tt
+classing_well : (x : Result ℕ Failure) → at_most_four x ≡ true → WellClass (classing_of x)
+classing_well (Ok k) e = (leb-true k 4 e, budget_is_demand k)
+classing_well (Err OverCurrent) e = tt
+classing_well (Err Disagree) e = tt
 
 pub digest_well : (s : Sample) → WellClass (digest s).class
 unfolding digest

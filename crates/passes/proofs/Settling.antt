@@ -27,6 +27,7 @@ use Rattle.port.specs.declared.form.State.{State}
 use Rattle.settling.specs.Claim.{rank_in, settled_as}
 use Rattle.settling.proofs.Claim.{rank_in_lem, urgency_small, settled_as_lem}
 use Rattle.settling.specs.Settle.{urgency, rank, granted, settled}
+use Rattle.share.specs.declared.Claim.{Claim}
 use Rattle.share.specs.Given.{rank_of, demand_of}
 use Rattle.share.proofs.Given.{claims_of, claims_of_lem}
 use Rattle.share.proofs.Laws.{all_keep}
@@ -37,7 +38,7 @@ use Rattle.table.specs.declared.form.Table.{Table}
 use Rattle.cells.specs.Cells.{port_of}
 use Rattle.boards.proofs.Laws.{Opens, rank_here_lem}
 use Rattle.boards.specs.Sharing.{rank_at, claim_at, kept_at, settled_at, port_after}
-use Rattle.claims.specs.Claimed.{is_set, wants, ranks_on, demands_on}
+use Rattle.claims.specs.Claimed.{is_set, wants, claims_on}
 use Rattle.passes.specs.Passes.{kept_on, settled_by, admitted_by, shared_by}
 
 -- an asker has a claim
@@ -56,28 +57,27 @@ entered false x = refl
 -- a table, its moves, and the cells and the lane that hold what they came to
 module _ (t : Table) (moved : ℕ → Moved) (opens : Opens t moved) (few : t.count ≤ most_ports) (l lane : List ℕ)
     (ports : (p : ℕ) → p < t.count → port_of l p ≡ (moved p).port) (asks : (p : ℕ) → p < t.count → is_set (get_or lane p 0) ≡ (moved p).asks) where
-  -- the ranks and the demands that the passes work out are the claims'
-  ranks_are : ranks_on t.count lane l ≡ tabulate most_ports (rank_at t moved)
-  unfolding ranks_on rank_at
-  ranks_are =
-      tabulate_cong most_ports _ (rank_at t moved)
+  -- the claims that the passes work out are the definition's
+  abbrev claim : ℕ → Claim
+  claim p = record { rank = rank_at t moved p; demand = claim_at t moved p }
+
+  claims_are : claims_on t.count lane l ≡ claims_of (rank_at t moved) (claim_at t moved)
+  unfolding claims_on claims_of rank_at claim_at
+  claims_are =
+      tabulate_cong most_ports _ claim
       (λ p h.
       ⊎_elim
       (λ (k : p < t.count).
       simp (lt-ltb p t.count k)
-      (ap₂ (λ (x : Port) (a : Bool). rank_in x.state x.control a) (ports p k) (asks p k) ∙ rank_in_lem (port_at t p).state (moved p) (opens p k)))
+      (ap₂ (λ (r : ℕ) (d : Power). record { rank = r; demand = d })
+      (ap₂ (λ (x : Port) (a : Bool). rank_in x.state x.control a) (ports p k) (asks p k) ∙ rank_in_lem (port_at t p).state (moved p) (opens p k))
+      (ap (λ (x : Port). x.demand) (ports p k))))
       (λ (k : t.count ≤ p). simp (le-ltb p t.count k))
       (side p t.count))
 
-  demands_are : demands_on t.count l ≡ tabulate most_ports (claim_at t moved)
-  unfolding demands_on claim_at
-  demands_are =
-      tabulate_cong most_ports _ (claim_at t moved)
-      (λ p h.
-      ⊎_elim
-      (λ (k : p < t.count). simp (lt-ltb p t.count k) (ap (λ (x : Port). x.demand) (ports p k)))
-      (λ (k : t.count ≤ p). simp (le-ltb p t.count k))
-      (side p t.count))
+  rank_there : (p : ℕ) → p < most_ports → rank_of (claims_of (rank_at t moved) (claim_at t moved)) p ≡ rank_at t moved p
+  unfolding rank_of claims_of
+  rank_there p h = ap (λ (c : Claim). c.rank) (get_d_tabulate most_ports claim _ p h)
 
   -- what is claimed is at most what the closed ports draw and the askers want
   claim_here : (p : ℕ) → p < t.count → cond (claims (rank_at t moved) p) (claim_at t moved p).0 0 ≤ draws (moved p).port + cond (moved p).asks (moved p).port.demand.0 0
@@ -119,24 +119,24 @@ module _ (t : Table) (moved : ℕ → Moved) (opens : Opens t moved) (few : t.co
 
   module _ (supply : Power) where
     -- the claims that the passes keep
-    kept_is : (p : ℕ) → p < most_ports → get_or (kept_on (ranks_on t.count lane l) (demands_on t.count l) supply.0) p false ≡ kept_at t moved supply p
-    unfolding kept_on kept_at claims_of
+    kept_is : (p : ℕ) → p < most_ports → get_or (kept_on (claims_on t.count lane l) supply.0) p false ≡ kept_at t moved supply p
+    unfolding kept_on kept_at
     kept_is p h =
-        ap₂ (λ (r : List ℕ) (d : List Power). get_or (tabulate most_ports (keeps most_ports (rank_of (record { ranks = r; demands = d })) (demand_of (record { ranks = r; demands = d })) supply.0)) p false) ranks_are demands_are
+        ap (λ (c : List Claim). get_or (tabulate most_ports (keeps most_ports (rank_of c) (demand_of c) supply.0)) p false) claims_are
         ∙ get_d_tabulate most_ports (keeps most_ports (rank_of (claims_of (rank_at t moved) (claim_at t moved))) (demand_of (claims_of (rank_at t moved) (claim_at t moved))) supply.0) false p h
         ∙ claims_of_lem (rank_at t moved) (claim_at t moved) supply.0 p h
 
     -- a place below the count settles as the definition says
-    settled_is : (p : ℕ) → p < t.count → settled_by (ranks_on t.count lane l) (kept_on (ranks_on t.count lane l) (demands_on t.count l) supply.0) l p ≡ (settled_at t moved supply p).port
+    settled_is : (p : ℕ) → p < t.count → settled_by (claims_on t.count lane l) (kept_on (claims_on t.count lane l) supply.0) l p ≡ (settled_at t moved supply p).port
     unfolding settled_by settled_at
     settled_is p h =
         let k = kept_is p (omega arith) in
-        let r : get_or (ranks_on t.count lane l) p 0 ≡ rank (port_at t p).state (moved p) =
-        ap (λ (x : List ℕ). get_or x p 0) ranks_are ∙ get_d_tabulate most_ports (rank_at t moved) 0 p (omega arith) ∙ rank_here_lem t moved p h in
+        let r : rank_of (claims_on t.count lane l) p ≡ rank (port_at t p).state (moved p) =
+        ap (λ (x : List Claim). rank_of x p) claims_are ∙ rank_there p (omega arith) ∙ rank_here_lem t moved p h in
         let K = kept_at t moved supply p in
         let R = rank (port_at t p).state (moved p) in
         ap (λ (m : Moved). m.port)
-        (ap (λ (x : ℕ). settled_as x (get_or (kept_on (ranks_on t.count lane l) (demands_on t.count l) supply.0) p false) (port_of l p)) r
+        (ap (λ (x : ℕ). settled_as x (get_or (kept_on (claims_on t.count lane l) supply.0) p false) (port_of l p)) r
         ∙ ap (λ (b : Bool). settled_as R b (port_of l p)) k
         ∙ ap (settled_as R K) (ports p h)
         ∙ settled_as_lem (port_at t p).state (moved p) K
@@ -185,6 +185,6 @@ module _ (t : Table) (moved : ℕ → Moved) (opens : Opens t moved) (few : t.co
     shared_is drawn e p h = simp (lt-ltb p t.count h) (go (leb (drawn + total t.count (λ q. wants (get_or lane q 0) l q)) supply.0) refl)
       where
         go : (b : Bool) → leb (drawn + total t.count (λ q. wants (get_or lane q 0) l q)) supply.0 ≡ b
-            → cond b (admitted_by lane l p) (settled_by (ranks_on t.count lane l) (kept_on (ranks_on t.count lane l) (demands_on t.count l) supply.0) l p) ≡ (settled_at t moved supply p).port
+            → cond b (admitted_by lane l p) (settled_by (claims_on t.count lane l) (kept_on (claims_on t.count lane l) supply.0) l p) ≡ (settled_at t moved supply p).port
         go true q = admit_is (le_trans claimed_at_most (omega (arith, e, wanted_is, leb-true (drawn + total t.count (λ q. wants (get_or lane q 0) l q)) supply.0 q))) p h
         go false q = settled_is p h

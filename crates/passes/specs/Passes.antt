@@ -1,7 +1,9 @@
 -- What the passes of a tick hand to each other. A reader of the tick needs none of this: `tick` and `table_after` are its meaning.
 -- Assumes nothing.
-use Rattle.std.specs.Prelude.{ℕ, ◌+◌, ◌*◌, ◌<◌, ◌≡◌, Bool, true, false, cond, ◌||◌, List, ltb, leb, eqb, length, get_or, replicate}
+use Rattle.std.specs.Prelude.{ℕ, ◌+◌, ◌*◌, ◌<◌, ◌≤◌, ◌≡◌, Bool, true, false, cond, ◌||◌, List, ltb, leb, eqb, length, get_or, replicate, Result, Ok}
 use Rattle.sizes.specs.Sizes.{most_ports, most_supply, sample_bytes}
+use Rattle.sizes.specs.Refused.{refused}
+use Rattle.sizes.specs.declared.refusals.Refusal.{Refusal}
 use Rattle.lists.specs.Bits.{one}
 use Rattle.lists.specs.Every.{some_below}
 use Rattle.lists.specs.Places.{tabulate}
@@ -16,31 +18,38 @@ use Rattle.diagram.specs.Step.{step}
 use Rattle.settling.specs.Claim.{settled_as}
 use Rattle.share.specs.Given.{rank_of, demand_of}
 use Rattle.share.specs.Share.{no_claim, keeps}
-use Rattle.share.specs.declared.Claims.{Claims}
+use Rattle.share.specs.declared.Claim.{Claim}
 use Rattle.table.specs.declared.form.Closed.{Closed}
 use Rattle.cells.specs.Cells.{count_cell, port_of, table_of, written, cells_with}
+use Rattle.cells.specs.Holds.{Holds}
 use Rattle.quick.specs.Sweep.{swept_cells, swept_lane, swept_left}
 use Rattle.well.specs.Judged.{well_cells}
-use Rattle.boards.specs.Masks.{answered}
+use Rattle.boards.specs.Masks.{closed_ports}
 use Rattle.boards.specs.Sharing.{table_after}
 use Rattle.block.specs.Digest.{digest}
 use Rattle.block.specs.Flags.{flags_fine, flag_lane}
-use Rattle.claims.specs.Claimed.{is_set, wants, ranks_on, demands_on}
+use Rattle.claims.specs.Claimed.{is_set, wants, claims_on}
 use Rattle.tally.specs.Tally.{drawn_on}
 use Rattle.passes.specs.Tick.{moved_at}
 
 -- ---- the tests
 
--- the number of the refusal, 0 if nothing is refused
-unfoldable pub refusal_of : Bool → ℕ → List ℕ → ℕ → ℕ
-refusal_of well n block figure =
-    cond well (cond (eqb (length block) (sample_bytes * n)) (cond (ltb most_supply figure) 4 (cond (flags_fine n block) 0 3)) 1) 13
+-- the refusal, or the supply that the figure is
+unfoldable pub checked_on : Bool → ℕ → List ℕ → ℕ → Result Power Refusal
+checked_on well n block figure =
+    cond well (cond (eqb (length block) (sample_bytes * n)) (cond (ltb most_supply figure) (refused 4) (cond (flags_fine n block) (Ok (tenths figure)) (refused 3))) (refused 1)) (refused 13)
 
 -- ---- the moves
 
 -- classes that fit a byte, so that a port can be taken out of its cells
 abbrev pub Classes : ℕ → List ℕ → Type 0
 Classes n l = (p : ℕ) → p < n → get_or l (152 + p) 0 < 256
+
+-- cells out of which n ports can be taken, and into which they can be put
+pub record Portable (n : ℕ) (l : List ℕ) : Type 0 where
+  pub few : n ≤ most_ports
+  pub holds : Holds n l
+  pub classes : Classes n l
 
 -- the whole step of the port at a place
 unfoldable pub whole_move : List ℕ → List ℕ → ℕ → Moved
@@ -60,14 +69,12 @@ stepped_lane n block l lane = tabulate most_ports (λ p. cond (ltb p n) (one (ma
 -- ---- the sharing, of ports that have moved
 
 -- the places that keep their claim
-unfoldable pub kept_on : List ℕ → List Power → ℕ → List Bool
-kept_on ranks demands supply =
-    let claims : Claims = record { ranks = ranks; demands = demands } in
-    tabulate most_ports (keeps most_ports (rank_of claims) (demand_of claims) supply)
+unfoldable pub kept_on : List Claim → ℕ → List Bool
+kept_on claims supply = tabulate most_ports (keeps most_ports (rank_of claims) (demand_of claims) supply)
 
 -- the port at a place settled, by its rank and whether its claim was kept
-unfoldable pub settled_by : List ℕ → List Bool → List ℕ → ℕ → Port
-settled_by ranks kept l p = (settled_as (get_or ranks p 0) (get_or kept p false) (port_of l p)).port
+unfoldable pub settled_by : List Claim → List Bool → List ℕ → ℕ → Port
+settled_by claims kept l p = (settled_as (rank_of claims p) (get_or kept p false) (port_of l p)).port
 
 -- and where every claim is kept: an asker's rank is 3 or more
 unfoldable pub admitted_by : List ℕ → List ℕ → ℕ → Port
@@ -76,7 +83,7 @@ admitted_by lane l p = (settled_as (cond (is_set (get_or lane p 0)) 3 no_claim) 
 unfoldable pub shared_by : ℕ → List ℕ → ℕ → ℕ → List ℕ → ℕ → Port
 shared_by n lane drawn supply l p =
     cond (leb (drawn + total n (λ q. wants (get_or lane q 0) l q)) supply) (admitted_by lane l p)
-    (settled_by (ranks_on n lane l) (kept_on (ranks_on n lane l) (demands_on n l) supply) l p)
+    (settled_by (claims_on n lane l) (kept_on (claims_on n lane l) supply) l p)
 
 -- ---- the part that cannot refuse
 
@@ -107,4 +114,4 @@ unfoldable pub moved_cells : List ℕ → List ℕ → ℕ → List ℕ
 moved_cells l block supply = cells_with (table_after (table_of l) (moved_at (table_of l) block) (tenths supply)) l
 
 unfoldable pub moved_answer : List ℕ → List ℕ → ℕ → Closed
-moved_answer l block supply = (answered (table_after (table_of l) (moved_at (table_of l) block) (tenths supply))).answer
+moved_answer l block supply = closed_ports (table_after (table_of l) (moved_at (table_of l) block) (tenths supply))

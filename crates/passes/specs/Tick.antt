@@ -1,6 +1,7 @@
 -- Document 01: the tick of the access switch. "After every port has moved, claims are ranked", kept or shed, and the masks are answered.
-use Rattle.std.specs.Prelude.{ℕ, ◌*◌, Bool, not, List, [], ◌∷◌, ltb, eqb, length}
+use Rattle.std.specs.Prelude.{ℕ, ◌*◌, Bool, not, List, [], ◌∷◌, ltb, eqb, length, Result}
 use Rattle.sizes.specs.Sizes.{most_supply, sample_bytes}
+use Rattle.sizes.specs.declared.refusals.Refusal.{Refusal}
 use Rattle.lists.specs.Every.{some_below}
 use Rattle.lists.specs.Ladder.{ladder}
 use Rattle.power.specs.Power.{forced, tenths}
@@ -10,9 +11,9 @@ use Rattle.port.specs.declared.form.Moved.{Moved}
 use Rattle.boards.specs.Masks.{answered}
 use Rattle.boards.specs.Sharing.{table_after}
 use Rattle.table.specs.declared.form.Table.{Table}
-use Rattle.table.specs.declared.form.Ticked.{Ticked}
+use Rattle.table.specs.declared.form.Closed.{Closed}
 use Rattle.block.specs.Digest.{digest}
-use Rattle.table.specs.Parts.{port_at, refuse_tick}
+use Rattle.table.specs.Parts.{Told, port_at, refuse}
 use Rattle.table.specs.WellMade.{ill_made}
 
 -- the port at a place below the count, after its own move on its own sample: "14 bytes a port, in port order"
@@ -32,5 +33,5 @@ tick_refusals t block figure =
     ∷ (3, flags_reserved t block)
     ∷ []
 
-unfoldable pub tick : Table → List ℕ → ℕ → Ticked
-tick t block figure = ladder (tick_refusals t block figure) (λ k. refuse_tick k t) (answered (table_after t (moved_at t block) (tenths figure)))
+unfoldable pub tick : Table → List ℕ → ℕ → Told (Result Closed Refusal)
+tick t block figure = ladder (tick_refusals t block figure) (λ k. refuse k t) (answered (table_after t (moved_at t block) (tenths figure)))

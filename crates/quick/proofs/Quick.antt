@@ -1,7 +1,7 @@
 -- When a move changes counters and nothing else. A reader of the move needs none of this: `step` is its meaning, and `quick_is_step`
 -- says that the two agree. Limits and counting are those of `Rules` and `Entry`.
 -- Assumes nothing.
-use Rattle.std.proofs.Common.{◌≡◌, ℕ, Bool, true, false, cond, not, ◌&&◌, refl, ap, ◌∙◌, arith, eqb-true}
+use Rattle.std.proofs.Common.{◌≡◌, ℕ, Bool, true, false, cond, not, ◌&&◌, refl, ap, ◌∙◌, arith, eqb-true, Option, Some, None}
 use mathlib.Core.Bool.{false≢true, and-false}
 use borrow.Author.Tests.{not-true}
 use Rattle.lists.proofs.Tests.{and_left, and_right}
@@ -21,8 +21,6 @@ use Rattle.port.specs.declared.form.Port.{Port}
 use Rattle.port.specs.declared.form.Reading.{Reading}
 use Rattle.port.specs.declared.form.State.{State}
 use Rattle.port.specs.declared.form.State.TheVariants.{Disabled, Idle, Detecting, Backoff, Classifying, PowerUp, PowerOn, ErrorDelay, TestMode, TestError}
-use Rattle.quick.specs.declared.QuickAnswer.{QuickAnswer}
-use Rattle.quick.specs.declared.QuickAnswer.TheVariants.{Counted, Whole}
 use Rattle.quick.specs.declared.FlagsShown.{FlagsShown}
 use Rattle.port.specs.Changes.{with_counts, detection_at, backoff_at, error_delay_at, power_on_at, limiting_at, overload_at, no_load_at, quietly}
 use Rattle.port.specs.Entry.{up, during, enter}
@@ -47,8 +45,8 @@ is_classed (Is k d) = true
 unfoldable pub signs_of : Reading → FlagsShown
 signs_of r = record { detected = is_done r.detection; classed = is_classed r.class; settled = r.settled; limiting = r.limiting; overload = r.overload; load = r.load }
 
-abbrev pub only : Bool → Counts → QuickAnswer
-only stays c = cond stays (Counted c) Whole
+abbrev pub only : Bool → Counts → Option Counts
+only stays c = cond stays (Some c) None
 
 abbrev pub stressed_by : FlagsShown → Counts → Counts
 stressed_by s c = limiting_at (during s.limiting c.limiting) (overload_at (during s.overload c.overload) c)
@@ -57,33 +55,33 @@ stressed_by s c = limiting_at (during s.limiting c.limiting) (overload_at (durin
 abbrev pub calm : Counts → Bool
 calm c = not (fault_by c.limiting) && not (fault_by c.overload)
 
-unfoldable pub quick_detecting : Enable → FlagsShown → Counts → QuickAnswer
+unfoldable pub quick_detecting : Enable → FlagsShown → Counts → Option Counts
 quick_detecting e s c = only ((is_on e && not s.detected) && not (detecting_ends (up c.detection))) (detection_at (up c.detection) c)
 
-unfoldable pub quick_backoff : Enable → Counts → QuickAnswer
+unfoldable pub quick_backoff : Enable → Counts → Option Counts
 quick_backoff e c = only (not (is_off e) && not (backoff_ends (up c.backoff))) (backoff_at (up c.backoff) c)
 
-unfoldable pub quick_error_delay : Enable → Counts → QuickAnswer
+unfoldable pub quick_error_delay : Enable → Counts → Option Counts
 quick_error_delay e c = only (not (is_off e) && not (error_delay_ends (up c.error_delay))) (error_delay_at (up c.error_delay) c)
 
-unfoldable pub quick_classifying : Enable → FlagsShown → Counts → QuickAnswer
+unfoldable pub quick_classifying : Enable → FlagsShown → Counts → Option Counts
 quick_classifying e s c = only ((is_on e && not s.classed) && not (classifying_ends (up c.power_on))) (power_on_at (up c.power_on) c)
 
-unfoldable pub quick_power_up : Enable → FlagsShown → Counts → QuickAnswer
+unfoldable pub quick_power_up : Enable → FlagsShown → Counts → Option Counts
 quick_power_up e s c =
     only (((is_on e && not s.settled) && not (power_up_ends (up c.power_on))) && calm (stressed_by s c)) (power_on_at (up c.power_on) (stressed_by s c))
 
-unfoldable pub quick_power_on : Enable → FlagsShown → Counts → QuickAnswer
+unfoldable pub quick_power_on : Enable → FlagsShown → Counts → Option Counts
 quick_power_on e s c =
     only ((is_on e && not (load_absent (during (not s.load) c.no_load))) && calm (stressed_by s c)) (no_load_at (during (not s.load) c.no_load) (stressed_by s c))
 
-unfoldable pub quick_test_mode : Enable → FlagsShown → Counts → QuickAnswer
+unfoldable pub quick_test_mode : Enable → FlagsShown → Counts → Option Counts
 quick_test_mode e s c = only (is_forced e && calm (stressed_by s c)) (stressed_by s c)
 
 -- by the state; a port in DISABLED that stays there keeps its counters and, having no demand, everything
-unfoldable pub quick_in : State → Enable → Power → FlagsShown → Counts → QuickAnswer
+unfoldable pub quick_in : State → Enable → Power → FlagsShown → Counts → Option Counts
 quick_in Disabled e d s c = only (is_off e && same d zero_power) c
-quick_in Idle e d s c = Whole
+quick_in Idle e d s c = None
 quick_in Detecting e d s c = quick_detecting e s c
 quick_in Backoff e d s c = quick_backoff e c
 quick_in Classifying e d s c = quick_classifying e s c
@@ -93,12 +91,12 @@ quick_in ErrorDelay e d s c = quick_error_delay e c
 quick_in TestMode e d s c = quick_test_mode e s c
 quick_in TestError e d s c = only (is_forced e) c
 
-unfoldable pub quickly : Port → FlagsShown → QuickAnswer
+unfoldable pub quickly : Port → FlagsShown → Option Counts
 quickly p s = quick_in p.state (enable_of p.control) p.demand s p.counts
 
 -- ---- the quick answer is the step's
 
-only_says : (t : Bool) (c d : Counts) → only t c ≡ Counted d → (t ≡ true) × (c ≡ d)
+only_says : (t : Bool) (c d : Counts) → only t c ≡ Some d → (t ≡ true) × (c ≡ d)
 only_says true c d e = (refl, cc)
 only_says false c d e = let z : ◌≡◌ {A = ℕ} 0 1 = cc in absurd (omega arith)
 
@@ -149,14 +147,14 @@ module _ (claim : Power) (p : Port) (r : Reading) where
   with : (c d : Counts) (m : Moved) → c ≡ d → m ≡ quietly (with_counts c p) → m ≡ quietly (with_counts d p)
   with c d m e h = h ∙ ap (λ k. quietly (with_counts k p)) e
 
-  stays_disabled : (c : Counts) → p.state ≡ Disabled → only (is_off enable && same p.demand zero_power) p.counts ≡ Counted c → step claim p r ≡ quietly (with_counts c p)
+  stays_disabled : (c : Counts) → p.state ≡ Disabled → only (is_off enable && same p.demand zero_power) p.counts ≡ Some c → step claim p r ≡ quietly (with_counts c p)
   unfolding step enter same
   stays_disabled c st e =
       let h = only_says _ _ c e in
       let none : p.demand ≡ zero_power = λ k. record { 0 = eqb-true p.demand.0 0 (and_right (is_off enable) (same p.demand zero_power) h.0) k } in
       with p.counts c _ h.1 (simp (and_left (is_off enable) (same p.demand zero_power) h.0, st, none))
 
-  stays_detecting : (c : Counts) → p.state ≡ Detecting → quick_detecting enable (signs_of r) p.counts ≡ Counted c → step claim p r ≡ quietly (with_counts c p)
+  stays_detecting : (c : Counts) → p.state ≡ Detecting → quick_detecting enable (signs_of r) p.counts ≡ Some c → step claim p r ≡ quietly (with_counts c p)
   unfolding quick_detecting signs_of by_state detecting detected
   stays_detecting c st e =
       let h = only_says _ _ c e in
@@ -165,7 +163,7 @@ module _ (claim : Power) (p : Port) (r : Reading) where
       let early = not-true (detecting_ends (up p.counts.detection)) (and_right (is_on enable && not (is_done r.detection)) _ h.0) in
       with _ c _ h.1 (on_goes Detecting st (and_left _ _ both) ∙ simp (early, none))
 
-  stays_backoff : (c : Counts) → p.state ≡ Backoff → quick_backoff enable p.counts ≡ Counted c → step claim p r ≡ quietly (with_counts c p)
+  stays_backoff : (c : Counts) → p.state ≡ Backoff → quick_backoff enable p.counts ≡ Some c → step claim p r ≡ quietly (with_counts c p)
   unfolding quick_backoff by_state backoff
   stays_backoff c st e =
       let h = only_says _ _ c e in
@@ -173,7 +171,7 @@ module _ (claim : Power) (p : Port) (r : Reading) where
       let early = not-true (backoff_ends (up p.counts.backoff)) (and_right (not (is_off enable)) _ h.0) in
       with _ c _ h.1 (onward Backoff st off (and-false (is_forced enable)) ∙ simp early)
 
-  stays_error_delay : (c : Counts) → p.state ≡ ErrorDelay → quick_error_delay enable p.counts ≡ Counted c → step claim p r ≡ quietly (with_counts c p)
+  stays_error_delay : (c : Counts) → p.state ≡ ErrorDelay → quick_error_delay enable p.counts ≡ Some c → step claim p r ≡ quietly (with_counts c p)
   unfolding quick_error_delay by_state error_delay_rule
   stays_error_delay c st e =
       let h = only_says _ _ c e in
@@ -181,7 +179,7 @@ module _ (claim : Power) (p : Port) (r : Reading) where
       let early = not-true (error_delay_ends (up p.counts.error_delay)) (and_right (not (is_off enable)) _ h.0) in
       with _ c _ h.1 (onward ErrorDelay st off (and-false (is_forced enable)) ∙ simp early)
 
-  stays_classifying : (c : Counts) → p.state ≡ Classifying → quick_classifying enable (signs_of r) p.counts ≡ Counted c → step claim p r ≡ quietly (with_counts c p)
+  stays_classifying : (c : Counts) → p.state ≡ Classifying → quick_classifying enable (signs_of r) p.counts ≡ Some c → step claim p r ≡ quietly (with_counts c p)
   unfolding quick_classifying signs_of by_state classifying classed
   stays_classifying c st e =
       let h = only_says _ _ c e in
@@ -194,7 +192,7 @@ module _ (claim : Power) (p : Port) (r : Reading) where
   abbrev stress : Counts
   stress = stressed_by (signs_of r) p.counts
 
-  stays_power_up : (c : Counts) → p.state ≡ PowerUp → quick_power_up enable (signs_of r) p.counts ≡ Counted c → step claim p r ≡ quietly (with_counts c p)
+  stays_power_up : (c : Counts) → p.state ≡ PowerUp → quick_power_up enable (signs_of r) p.counts ≡ Some c → step claim p r ≡ quietly (with_counts c p)
   unfolding quick_power_up signs_of by_state power_up stressed watched risen
   stays_power_up c st e =
       let h = only_says _ _ c e in
@@ -206,7 +204,7 @@ module _ (claim : Power) (p : Port) (r : Reading) where
       (on_goes PowerUp st (and_left _ _ two)
       ∙ simp (not-true (fault_by stress.limiting) (and_left _ _ rough), not-true (fault_by stress.overload) (and_right (not (fault_by stress.limiting)) _ rough), early, not-true r.settled (and_right (is_on enable) _ two)))
 
-  stays_power_on : (c : Counts) → p.state ≡ PowerOn → quick_power_on enable (signs_of r) p.counts ≡ Counted c → step claim p r ≡ quietly (with_counts c p)
+  stays_power_on : (c : Counts) → p.state ≡ PowerOn → quick_power_on enable (signs_of r) p.counts ≡ Some c → step claim p r ≡ quietly (with_counts c p)
   unfolding quick_power_on signs_of by_state power_on_rule stressed watched
   stays_power_on c st e =
       let h = only_says _ _ c e in
@@ -217,7 +215,7 @@ module _ (claim : Power) (p : Port) (r : Reading) where
       (on_goes PowerOn st (and_left _ _ two)
       ∙ simp (not-true (fault_by stress.limiting) (and_left _ _ rough), not-true (fault_by stress.overload) (and_right (not (fault_by stress.limiting)) _ rough), early))
 
-  stays_test_mode : (c : Counts) → p.state ≡ TestMode → quick_test_mode enable (signs_of r) p.counts ≡ Counted c → step claim p r ≡ quietly (with_counts c p)
+  stays_test_mode : (c : Counts) → p.state ≡ TestMode → quick_test_mode enable (signs_of r) p.counts ≡ Some c → step claim p r ≡ quietly (with_counts c p)
   unfolding quick_test_mode signs_of by_state test_mode stressed watched
   stays_test_mode c st e =
       let h = only_says _ _ c e in
@@ -227,13 +225,13 @@ module _ (claim : Power) (p : Port) (r : Reading) where
       (onward TestMode st (forced_not_off enable forced) (and-false (is_forced enable))
       ∙ simp (forced, not-true (fault_by stress.limiting) (and_left _ _ rough), not-true (fault_by stress.overload) (and_right (not (fault_by stress.limiting)) _ rough)))
 
-  stays_test_error : (c : Counts) → p.state ≡ TestError → only (is_forced enable) p.counts ≡ Counted c → step claim p r ≡ quietly (with_counts c p)
+  stays_test_error : (c : Counts) → p.state ≡ TestError → only (is_forced enable) p.counts ≡ Some c → step claim p r ≡ quietly (with_counts c p)
   unfolding by_state test_error
   stays_test_error c st e =
       let h = only_says _ _ c e in
       with _ c _ h.1 (onward TestError st (forced_not_off enable h.0) (and-false (is_forced enable)) ∙ simp h.0)
 
-  by_case : (s : State) (c : Counts) → p.state ≡ s → quick_in s enable p.demand (signs_of r) p.counts ≡ Counted c → step claim p r ≡ quietly (with_counts c p)
+  by_case : (s : State) (c : Counts) → p.state ≡ s → quick_in s enable p.demand (signs_of r) p.counts ≡ Some c → step claim p r ≡ quietly (with_counts c p)
   unfolding quick_in
   by_case Disabled c st e = stays_disabled c st e
   by_case Idle c st e = let z : ◌≡◌ {A = ℕ} 0 1 = cc in absurd (omega arith)
@@ -247,6 +245,6 @@ module _ (claim : Power) (p : Port) (r : Reading) where
   by_case TestError c st e = stays_test_error c st e
 
   -- where the quick answer has counters, the step is to set them
-  pub quick_is_step : (c : Counts) → quickly p (signs_of r) ≡ Counted c → step claim p r ≡ quietly (with_counts c p)
+  pub quick_is_step : (c : Counts) → quickly p (signs_of r) ≡ Some c → step claim p r ≡ quietly (with_counts c p)
   unfolding quickly
   quick_is_step c e = by_case p.state c refl e

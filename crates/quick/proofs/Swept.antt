@@ -1,6 +1,6 @@
 -- What the pass leaves in the cells of a well-made table: a port whose move only counts has made it, and one that is marked is as it was.
 -- Assumes nothing.
-use Rattle.std.proofs.Common.{◌≡◌, ℕ, zero, suc, ◌+◌, ◌%◌, ◌<◌, ◌≤◌, Bool, true, false, cond, not, eqb, List, length, get_or, sym, refl, ap, ◌∙◌, true≢false, le_refl, add-one, arith}
+use Rattle.std.proofs.Common.{◌≡◌, ℕ, zero, suc, ◌+◌, ◌%◌, ◌<◌, ◌≤◌, Bool, true, false, cond, not, eqb, List, length, get_or, sym, refl, ap, ◌∙◌, true≢false, le_refl, add-one, arith, Option, Some, None}
 use mathlib.Core.Bool.{false≢true}
 use Rattle.sizes.specs.Sizes.{most_ports}
 use Rattle.lists.specs.Bits.{choose}
@@ -23,8 +23,6 @@ use Rattle.cells.proofs.Pass.{stage, pass_none, pass_counts, pass_all}
 use Rattle.quick.proofs.Quick.{signs_of, quick_in, quickly, quick_is_step}
 use Rattle.quick.specs.Sweep.{signs_by, looked, looked_at, is_marked, looked_cells}
 use Rattle.quick.proofs.SweepLaws.{Small, is_counted, glanced, shown, enable_no, look_is}
-use Rattle.quick.specs.declared.QuickAnswer.{QuickAnswer}
-use Rattle.quick.specs.declared.QuickAnswer.TheVariants.{Counted, Whole}
 use Rattle.quick.specs.declared.Look.{Look}
 
 -- what the pass asks of a port's cells: a state that there is, an enable code that is not reserved, counters within bounds
@@ -89,17 +87,17 @@ module _ (claim : Power) (flags : ℕ) (l : List ℕ) (p : ℕ) (f : Fair l p) (
   unfolding swept
   unmarked_moves e = go (quickly (port_of l p) (signs_by flags)) refl (sym marked_is ∙ e)
     where
-      go : (g : QuickAnswer) → quickly (port_of l p) (signs_by flags) ≡ g → not (is_counted g) ≡ false → step claim (port_of l p) r ≡ quietly (with_counts (glanced (quickly (port_of l p) (signs_by flags)) (port_of l p).counts) (port_of l p))
-      go (Counted c) q h =
+      go : (g : Option Counts) → quickly (port_of l p) (signs_by flags) ≡ g → not (is_counted g) ≡ false → step claim (port_of l p) r ≡ quietly (with_counts (glanced (quickly (port_of l p) (signs_by flags)) (port_of l p).counts) (port_of l p))
+      go (Some c) q h =
           quick_is_step claim (port_of l p) r c (ap (quickly (port_of l p)) signs ∙ q)
-          ∙ ap (λ (x : QuickAnswer). quietly (with_counts (glanced x (port_of l p).counts) (port_of l p))) (sym q)
-      go Whole q h = absurd (true≢false h)
+          ∙ ap (λ (x : Option Counts). quietly (with_counts (glanced x (port_of l p).counts) (port_of l p))) (sym q)
+      go None q h = absurd (true≢false h)
 
   -- and one that is marked is as it was
   pub marked_stays : is_marked flags l p ≡ true → swept flags l p ≡ port_of l p
   unfolding swept
   marked_stays e = go (quickly (port_of l p) (signs_by flags)) refl (sym marked_is ∙ e)
     where
-      go : (g : QuickAnswer) → quickly (port_of l p) (signs_by flags) ≡ g → not (is_counted g) ≡ true → with_counts (glanced (quickly (port_of l p) (signs_by flags)) (port_of l p).counts) (port_of l p) ≡ port_of l p
-      go (Counted c) q h = absurd (false≢true h)
-      go Whole q h = ap (λ (x : QuickAnswer). with_counts (glanced x (port_of l p).counts) (port_of l p)) q
+      go : (g : Option Counts) → quickly (port_of l p) (signs_by flags) ≡ g → not (is_counted g) ≡ true → with_counts (glanced (quickly (port_of l p) (signs_by flags)) (port_of l p).counts) (port_of l p) ≡ port_of l p
+      go (Some c) q h = absurd (false≢true h)
+      go None q h = ap (λ (x : Option Counts). with_counts (glanced x (port_of l p).counts) (port_of l p)) q

@@ -2,12 +2,12 @@
 // step.
 #![tactic(auto)]
 
-ghost use Rattle.std.specs.Prelude.{◌≡◌, ◌%◌, ◌<◌, ◌≤◌, ◌||◌, length, if◌then◌else◌, nat_lt, slice_index};
+ghost use Rattle.std.specs.Prelude.{◌≡◌, ◌%◌, ◌<◌, ◌≤◌, ◌||◌, if◌then◌else◌, slice_index};
 ghost use Rattle.sizes.specs.Sizes.{most_ports};
 ghost use Rattle.lists.specs.Every.{some_below};
-ghost use Rattle.cells.specs.Cells.{counts_of, cells_long};
+ghost use Rattle.cells.specs.Cells.{counts_of};
 ghost use Rattle.cells.specs.Writes.{with_count_cells};
-ghost use Rattle.quick.specs.Sweep.{counted, running, signs_by, looked, looked_at, is_marked, looked_cells, looked_lane, sweepable, swept_cells, swept_lane, swept_left};
+ghost use Rattle.quick.specs.Sweep.{counted, running, signs_by, looked, looked_at, is_marked, looked_cells, looked_lane, swept_cells, swept_lane, swept_left};
 
 use diagram::limits;
 use port::form::Counts;
@@ -22,14 +22,6 @@ pub struct FlagsShown {
     pub limiting: bool,
     pub overload: bool,
     pub load: bool,
-}
-
-#[derive(Clone, Copy)]
-pub enum QuickAnswer {
-    // The move sets the counters to these, and changes nothing else.
-    Counted(Counts),
-    // Only the whole step tells.
-    Whole,
 }
 
 // A port's counters after the pass, and a mark, all bits of it, where only the whole step tells.
@@ -48,31 +40,23 @@ const ERROR_DELAY_LAST: u16 = limits::ERROR_DELAY_ENDS - 1;
 
 const POWER_LAST: u16 = limits::POWER_UP_ENDS - 1;
 
-// A choice without a branch.
-fn pick(test: bool, a: u16, b: u16) -> u16
-    ensures { result ≡ (if test then a else b) }
-{
-    if test { a } else { b }
-}
-
 fn counted(goes: bool, n: u16) -> u16
     ensures { result ≡ counted goes n }
 {
-    if goes {
-        std::num::wrapping_add_u16(n, 1)
-    } else {
-        n
-    }
+    if goes { n.wrapping_add(1) } else { n }
 }
 
 fn running(runs: bool, n: u16) -> u16
     ensures { result ≡ running runs n }
 {
-    if runs {
-        std::num::wrapping_add_u16(n, 1)
-    } else {
-        0
-    }
+    if runs { n.wrapping_add(1) } else { 0 }
+}
+
+// All bits or none.
+fn bits(test: bool) -> u16
+    ensures { result ≡ (if test then 65535 else 0) }
+{
+    if test { 65_535 } else { 0 }
 }
 
 // A mark where none of three holds. Tests are all bits or none here, and added up: joined as tests they would be made narrow and wide
@@ -80,18 +64,19 @@ fn running(runs: bool, n: u16) -> u16
 fn mark_unless(a: bool, b: bool, c: bool) -> u16
     ensures { result ≡ (if (a || b) || c then 0 else 65535) }
 {
-    let two = std::num::wrapping_add_u16(pick(a, 65_535, 0), pick(b, 65_535, 0));
-    let three = std::num::wrapping_add_u16(two, pick(c, 65_535, 0));
-    pick(three == 0, 65_535, 0)
+    let two = bits(a).wrapping_add(bits(b));
+    let three = two.wrapping_add(bits(c));
+    bits(three == 0)
 }
 
 // Every counter is a choice and no state is branched on, so that a compiler looks at eight ports at once. A state's code stands beside
 // the enable bits: one comparison tests both.
+#[tactic(auto, unfolding(crate::specs::Sweep::looked, crate::specs::Sweep::signs_by))]
 fn look_at(state: u16, control: u16, demand: u16, flags: u16, counts: Counts) -> Look
     ensures { result ≡ looked state (control % 4) demand (signs_by flags) counts }
 {
     let enable = control % 4;
-    let key = std::num::wrapping_add_u16(enable * 16, state);
+    let key = (enable * 16).wrapping_add(state);
     let limiting = running(flags / 8 % 2 == 1, counts.limiting);
     let overload = running(flags / 16 % 2 == 1, counts.overload);
     let gone = running(!(32 <= flags), counts.no_load);
@@ -111,9 +96,9 @@ fn look_at(state: u16, control: u16, demand: u16, flags: u16, counts: Counts) ->
         backoff: counted(backs, counts.backoff),
         error_delay: counted(delays, counts.error_delay),
         power_on: counted(classes | rises, counts.power_on),
-        limiting: pick(shut, limiting, counts.limiting),
-        overload: pick(shut, overload, counts.overload),
-        no_load: pick(stays, gone, counts.no_load),
+        limiting: if shut { limiting } else { counts.limiting },
+        overload: if shut { overload } else { counts.overload },
+        no_load: if stays { gone } else { counts.no_load },
     };
     let mark = mark_unless(shut | detects, backs | delays, classes | stands);
     Look {
@@ -122,8 +107,10 @@ fn look_at(state: u16, control: u16, demand: u16, flags: u16, counts: Counts) ->
     }
 }
 
-fn counts_at(cells: &[u16], p: usize) -> Counts
-    requires { (length cells.now ≡ cells_long) × (p < most_ports) }
+// This and `put_counts` stand in `tick` too, for the reason given there.
+#[tactic(auto, unfolding(cells::specs::Cells::counts_of))]
+fn counts_at(cells: &[u16; CELLS], p: usize) -> Counts
+    requires { p < most_ports }
     ensures { result ≡ counts_of cells.now p }
 {
     Counts {
@@ -137,8 +124,9 @@ fn counts_at(cells: &[u16], p: usize) -> Counts
     }
 }
 
-fn put_counts(cells: &mut [u16], p: usize, counts: Counts)
-    requires { (length cells.old ≡ cells_long) × (p < most_ports) }
+#[tactic(auto, unfolding(cells::specs::Writes::with_count_cells, cells::specs::Writes::writes))]
+fn put_counts(cells: &mut [u16; CELLS], p: usize, counts: Counts)
+    requires { p < most_ports }
     ensures { cells.new ≡ with_count_cells p counts cells.old }
 {
     cells[248 + p] = counts.detection;
@@ -151,8 +139,9 @@ fn put_counts(cells: &mut [u16], p: usize, counts: Counts)
 }
 
 // A port's counters are moved on where they stand; its mark is answered.
-fn sweep_port(cells: &mut [u16], p: usize, flags: u16) -> u16
-    requires { (length cells.old ≡ cells_long) × (p < most_ports) }
+#[tactic(auto, unfolding(crate::specs::Sweep::looked_at))]
+fn sweep_port(cells: &mut [u16; CELLS], p: usize, flags: u16) -> u16
+    requires { p < most_ports }
     ensures value { result ≡ (looked_at flags cells.old p).mark }
     ensures cells_after { cells.new ≡ with_count_cells p (looked_at flags cells.old p).counts cells.old }
 {
@@ -163,49 +152,36 @@ fn sweep_port(cells: &mut [u16], p: usize, flags: u16) -> u16
     seen.mark
 }
 
-fn greater(a: u16, b: u16) -> u16
-    ensures { result ≡ (if nat_lt a b then b else a) }
-{
-    if a < b { b } else { a }
-}
-
-fn is_sweepable(cells: &[u16], lane: &[u16]) -> bool
-    ensures { result ≡ sweepable cells.now lane.now }
-{
-    if cells.len() != CELLS {
-        return false;
-    }
-    if lane.len() != PORTS {
-        return false;
-    }
-    cells[0] <= PORTS_16
-}
-
 // The ports below n, one after the other. Is some port marked?
-fn sweep_all(cells: &mut [u16], n: usize, lane: &mut [u16]) -> bool
-    requires { (length cells.old ≡ cells_long) × (n ≤ most_ports) × (length lane.old ≡ most_ports) }
+fn sweep_all(cells: &mut [u16; CELLS], n: usize, lane: &mut [u16; PORTS]) -> bool
+    requires { n ≤ most_ports }
     ensures value { result ≡ some_below n (λ p. is_marked (slice_index lane.old p) cells.old p) }
     ensures cells_after { cells.new ≡ looked_cells n lane.old cells.old }
     ensures lane_after { lane.new ≡ looked_lane n lane.old cells.old }
 {
     let mut left = 0u16;
-    let mut p = 0;
-    while p < n {
+    for p in 0..n {
         let mark = sweep_port(cells, p, lane[p]);
         lane[p] = mark;
-        left = greater(left, mark);
-        p += 1;
+        left = left.max(mark);
     }
     left != 0
 }
 
 // The lane has a number for each place: a port's flags at first, and its mark then. What is no table of ports stays as it is.
+#[tactic(auto, unfolding(crate::specs::Sweep::sweepable, crate::specs::Sweep::swept_left, crate::specs::Sweep::swept_cells, crate::specs::Sweep::swept_lane))]
 pub fn sweep(cells: &mut [u16], lane: &mut [u16]) -> bool
     ensures value { result ≡ swept_left cells.old lane.old }
     ensures cells_after { cells.new ≡ swept_cells cells.old lane.old }
     ensures lane_after { lane.new ≡ swept_lane cells.old lane.old }
 {
-    if !is_sweepable(cells, lane) {
+    let Some(cells) = cells.as_mut_array() else {
+        return false;
+    };
+    let Some(lane) = lane.as_mut_array() else {
+        return false;
+    };
+    if PORTS_16 < cells[0] {
         return false;
     }
     let n = cells[0] as usize;

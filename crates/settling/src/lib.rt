@@ -3,7 +3,6 @@
 
 ghost use Rattle.std.specs.Prelude.{◌≡◌, ◌<◌};
 ghost use Rattle.settling.specs.Claim.{rank_in, settled_as};
-ghost use Rattle.port.specs.States.{in_test};
 ghost use Rattle.settling.specs.Settle.{urgency, granted, shed};
 
 use control::{Priority, priority_of};
@@ -25,71 +24,49 @@ fn urgency_of(priority: Priority) -> u8
     match priority {
         Priority::Critical => 0,
         Priority::High => 1,
-        Priority::Low => 2,
-        Priority::Unknown => 2,
+        Priority::Low | Priority::Unknown => 2,
     }
 }
 
 // The rank of a port's claim, 0 the first. The state is that after the move: what is closed then was
 // closed before.
+#[tactic(auto, unfolding(crate::specs::Claim::rank_in))]
 pub fn rank_in(state: State, control: u16, asks: bool) -> u8
     ensures { result ≡ rank_in state control asks }
 {
     let urgency = urgency_of(priority_of(control));
     if is_closed(state) {
-        return urgency;
+        urgency
+    } else if asks {
+        3 + urgency
+    } else {
+        NO_CLAIM
     }
-    if asks {
-        return 3 + urgency;
-    }
-    NO_CLAIM
 }
 
+#[tactic(auto, unfolding(crate::specs::Settle::granted))]
 fn granted_in(state: State, port: Port) -> Port
     ensures { result ≡ granted state port }
 {
     match state {
-        State::Disabled => port,
         State::Idle => enter(State::TestMode, port),
-        State::Detecting => port,
-        State::Backoff => port,
         State::Classifying => enter(State::PowerUp, port),
-        State::PowerUp => port,
-        State::PowerOn => port,
-        State::ErrorDelay => port,
-        State::TestMode => port,
-        State::TestError => port,
+        _ => port,
     }
 }
 
-fn is_in_test(state: State) -> bool
-    ensures { result ≡ in_test state }
-{
-    match state {
-        State::Disabled => false,
-        State::Idle => false,
-        State::Detecting => false,
-        State::Backoff => false,
-        State::Classifying => false,
-        State::PowerUp => false,
-        State::PowerOn => false,
-        State::ErrorDelay => false,
-        State::TestMode => true,
-        State::TestError => false,
-    }
-}
-
+#[tactic(auto, unfolding(crate::specs::Settle::shed))]
 fn shed_port(port: Port) -> Moved
     ensures { result ≡ shed port }
 {
-    let state = port.state;
-    if is_in_test(state) {
+    if matches!(port.state, State::TestMode) {
         return latching(DENIED, enter(State::TestError, port));
     }
     latching(DENIED, enter(State::Idle, port))
 }
 
 // What the sharing makes of a port, by the rank of its claim and whether that was kept. The rank tells who asked.
+#[tactic(auto, unfolding(crate::specs::Claim::settled_as))]
 pub fn settled_port(rank: u8, kept: bool, port: Port) -> Moved
     ensures { result ≡ settled_as rank kept port }
 {
@@ -100,8 +77,7 @@ pub fn settled_port(rank: u8, kept: bool, port: Port) -> Moved
         return shed_port(port);
     }
     if 3 <= rank {
-        let state = port.state;
-        return quietly(granted_in(state, port));
+        return quietly(granted_in(port.state, port));
     }
     quietly(port)
 }

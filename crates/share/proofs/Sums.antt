@@ -86,9 +86,9 @@ pub slot_none : (rank demand : ℕ → ℕ) (j : ℕ) → of_slot 0 rank demand 
 unfolding of_slot
 slot_none rank demand j = sum_none 0 demand (λ q. eqb (slot_of (rank q)) j) (λ p l. absurd (not-suc-le-zero l))
 
-pub slot_small : (n : ℕ) (rank demand : ℕ → ℕ) (j : ℕ) → n ≤ most_ports → Small demand → of_slot n rank demand j ≤ 3145680
+pub slot_small : (n : ℕ) (rank demand : ℕ → ℕ) (j : ℕ) → n ≤ most_ports → ((p : ℕ) → p < n → demand p < 2 ^ 16) → of_slot n rank demand j ≤ 3145680
 unfolding of_slot
-slot_small n rank demand j h s = sum_small n demand (λ q. eqb (slot_of (rank q)) j) h (λ p l. s p (omega arith))
+slot_small n rank demand j h s = sum_small n demand (λ q. eqb (slot_of (rank q)) j) h s
 
 pub lower_small : (rank demand : ℕ → ℕ) (j : ℕ) → Small demand → of_lower most_ports rank demand j ≤ 3145680
 unfolding of_lower

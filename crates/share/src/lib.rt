@@ -4,7 +4,7 @@
 ghost use Rattle.std.specs.Prelude.{◌≡◌, ◌<◌, ◌^◌};
 ghost use Rattle.sizes.specs.Sizes.{most_ports};
 ghost use Rattle.lists.specs.Places.{tabulate};
-ghost use Rattle.power.specs.Power.{sum_of};
+ghost use Rattle.power.specs.Power.{sum_of, plus};
 ghost use Rattle.share.specs.Share.{keeps};
 ghost use Rattle.share.specs.Given.{rank_of, demand_of};
 ghost use Rattle.share.specs.Slots.{Small, within, slot_of, of_slot, joined};
@@ -15,48 +15,44 @@ use sizes::PORTS;
 // Ranks 0 to 5: ports that were closed before those that ask, and within each critical, high, then low and unknown alike. After them:
 pub const NO_CLAIM: u8 = 6;
 
-// For each place its rank, of which 0 comes first, and its demand. A place with another rank than 0 to 5 claims nothing.
+// A place's rank, of which 0 comes first, and its demand. A place with another rank than 0 to 5 claims nothing.
+// Kept a number: a rank is the index of its sum.
 #[derive(Clone, Copy)]
-pub struct Claims {
-    pub ranks: [u8; PORTS],
-    pub demands: [Power; PORTS],
+pub struct Claim {
+    pub rank: u8,
+    pub demand: Power,
 }
 
-// A demand's number fits its type: of this and of the loop below a compiler leaves nothing.
-fn told(demand: Power)
-    ensures { demand.0 < 2 ^ 16 }
-{}
-
-fn all_told(claims: Claims)
-    ensures { Small (demand_of claims) }
-{
-    for p in 0..48 {
-        let demand = claims.demands[p];
-        told(demand);
-    }
+impl Claim {
+    pub const NONE: Claim = Claim {
+        rank: NO_CLAIM,
+        demand: Power::ZERO,
+    };
 }
 
 // The place of a rank's sum among seven: a sum for each rank, and the last for what is no claim, which nobody asks for.
+#[tactic(auto, unfolding(crate::specs::Slots::slot_of))]
 fn slot(rank: u8) -> usize
     ensures { (result ≡ slot_of rank) × (result < 7) }
 {
-    if rank < NO_CLAIM {
-        return rank as usize;
-    }
-    NO_CLAIM as usize
+    rank.min(NO_CLAIM) as usize
 }
 
-fn rank_sums(claims: Claims) -> [Sum; 7]
-    requires { Small (demand_of claims) }
-    ensures { result ≡ tabulate 7 (λ k. sum_of (of_slot most_ports (rank_of claims) (demand_of claims) k)) }
+// A demand's number fits its type, so that no sum over the places reaches the end of its own.
+fn added(sum: Sum, demand: Power) -> Sum
+    ensures { (result ≡ plus sum demand) × (demand.0 < 2 ^ 16) }
+{
+    sum.plus(demand)
+}
+
+fn rank_sums(claims: &[Claim; PORTS]) -> [Sum; 7]
+    ensures small { Small (demand_of claims.now) }
+    ensures value { result ≡ tabulate 7 (λ k. sum_of (of_slot most_ports (rank_of claims.now) (demand_of claims.now) k)) }
 {
     let mut sums = [Sum::ZERO; 7];
-    for p in 0..48 {
-        let rank = claims.ranks[p];
-        let demand = claims.demands[p];
-        let k = slot(rank);
-        let sum = sums[k];
-        sums[k] = sum.plus(demand);
+    for claim in claims {
+        let k = slot(claim.rank);
+        sums[k] = added(sums[k], claim.demand);
     }
     sums
 }
@@ -69,44 +65,30 @@ fn starts(sums: [Sum; 7]) -> [Sum; 7]
     let mut sum = Sum::ZERO;
     for k in 0..7 {
         before[k] = sum;
-        let more = sums[k];
-        sum = sum.join(more);
+        sum = sum.join(sums[k]);
     }
     before
 }
 
+#[tactic(auto, unfolding(crate::specs::Slots::within))]
 fn within(sum: Sum, rank: u8, supply: Power) -> bool
     ensures { result ≡ within sum rank supply }
 {
-    if rank < NO_CLAIM {
-        return sum.fits(supply);
-    }
-    false
+    rank < NO_CLAIM && sum.fits(supply)
 }
 
-// A shed claim's demand stays in the sum of its rank, so that no smaller claim after it is kept.
-fn in_turn(claims: Claims, supply: Power) -> [bool; PORTS]
-    requires { Small (demand_of claims) }
-    ensures { result ≡ tabulate most_ports (keeps most_ports (rank_of claims) (demand_of claims) supply.0) }
+// The places that keep their claim. A shed claim's demand stays in the sum of its rank, so that no smaller claim after it is kept.
+pub fn kept(claims: &[Claim; PORTS], supply: Power) -> [bool; PORTS]
+    ensures { result ≡ tabulate most_ports (keeps most_ports (rank_of claims.now) (demand_of claims.now) supply.0) }
 {
     let mut sums = starts(rank_sums(claims));
     let mut kept = [false; PORTS];
-    for p in 0..48 {
-        let rank = claims.ranks[p];
-        let demand = claims.demands[p];
-        let k = slot(rank);
+    for (p, claim) in claims.iter().enumerate() {
+        let k = slot(claim.rank);
         let before = sums[k];
-        let sum = before.plus(demand);
+        let sum = added(before, claim.demand);
         sums[k] = sum;
-        kept[p] = within(sum, rank, supply);
+        kept[p] = within(sum, claim.rank, supply);
     }
     kept
-}
-
-// The places that keep their claim.
-pub fn kept(claims: Claims, supply: Power) -> [bool; PORTS]
-    ensures { result ≡ tabulate most_ports (keeps most_ports (rank_of claims) (demand_of claims) supply.0) }
-{
-    all_told(claims);
-    in_turn(claims, supply)
 }

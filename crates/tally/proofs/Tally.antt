@@ -26,11 +26,14 @@ use Rattle.port.specs.States.{closed}
 use Rattle.port.specs.declared.form.Port.{Port}
 use Rattle.table.specs.Drawn.{closed_at}
 use Rattle.table.specs.Parts.{port_at}
-use Rattle.table.specs.declared.form.Closed.TheVariants.{Ports}
+use Rattle.table.specs.declared.form.Closed.{Closed}
 use Rattle.table.specs.declared.form.Table.{Table}
-use Rattle.boards.specs.Masks.{names_a, names_b, mask_a, mask_b, answered}
+use Rattle.boards.specs.Masks.{names_a, names_b, mask_a, mask_b, closed_ports}
 use Rattle.cells.specs.Cells.{cells_long, port_of}
 use Rattle.tally.specs.Tally.{on_a, on_b, side_in, side_of, side_lane, Side, Sided, weighed, is_a, is_b, named, tallied, drawn_on, drawn_in, closed_in, sides_in}
+
+abbrev pub masked : ℕ → ℕ → Closed
+masked a b = record { a = a; b = b; number = ones a + ones b }
 
 -- ---- what a side says
 
@@ -127,9 +130,9 @@ module _ (n : ℕ) (l : List ℕ) where
         (side p n)))
 
     -- so they are what a tick answers of it
-    pub side_lane_answer : named (side_lane n l) ≡ (answered T).answer
-    unfolding answered named
-    side_lane_answer = ap₂ (λ (x y : ℕ). Ports x y (ones x + ones y)) side_lane_a side_lane_b
+    pub side_lane_answer : named (side_lane n l) ≡ closed_ports T
+    unfolding named
+    side_lane_answer = ap₂ (λ (x y : ℕ). masked x y) side_lane_a side_lane_b
 
 module _ (n : ℕ) (l : List ℕ) (few : n ≤ most_ports) (long : length l ≡ cells_long) where
   -- ---- where the cells are a table of so many ports

@@ -13,7 +13,6 @@ use Rattle.port.specs.declared.form.Port.{Port}
 use Rattle.port.specs.declared.form.State.{State}
 use Rattle.table.specs.Drawn.{draws}
 use Rattle.table.specs.declared.form.Closed.{Closed}
-use Rattle.table.specs.declared.form.Closed.TheVariants.{Ports}
 use Rattle.boards.specs.Masks.{names_a, names_b}
 use Rattle.cells.specs.Cells.{cells_long, port_of}
 
@@ -56,7 +55,7 @@ is_b lane p = eqb (get_or lane p 0) 256
 
 -- the masks that a lane of sides is, and how many ports they name
 unfoldable pub named : List ℕ → Closed
-named lane = let a : ℕ = mask most_ports (is_a lane) in let b : ℕ = mask most_ports (is_b lane) in Ports a b (ones a + ones b)
+named lane = let a : ℕ = mask most_ports (is_a lane) in let b : ℕ = mask most_ports (is_b lane) in record { a = a; b = b; number = ones a + ones b }
 
 -- ---- what is answered of cells and a count
 
@@ -71,9 +70,12 @@ drawn_on n l = total n (λ p. draws (port_of l p))
 unfoldable pub drawn_in : ℕ → List ℕ → ℕ
 drawn_in n l = cond (tallied n l) (drawn_on n l) 0
 
+abbrev pub none : Closed
+none = record { a = 0; b = 0; number = 0 }
+
 -- of what is no table of so many ports no port is named
 unfoldable pub closed_in : ℕ → List ℕ → List ℕ → Closed
-closed_in n l lane = cond (tallied n l && eqb (length lane) most_ports) (named (side_lane n l)) (Ports 0 0 0)
+closed_in n l lane = cond (tallied n l && eqb (length lane) most_ports) (named (side_lane n l)) none
 
 unfoldable pub sides_in : ℕ → List ℕ → List ℕ → List ℕ
 sides_in n l lane = cond (tallied n l && eqb (length lane) most_ports) (side_lane n l) lane
