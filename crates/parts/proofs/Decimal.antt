@@ -14,22 +14,22 @@ use borrow.Author.Tests.{lt-ltb, le-ltb, lt-leb, le-leb, leb-false, leb-true}
 use Rattle.lists.specs.Every.{every}
 use Rattle.lists.proofs.Every.{every_not}
 use Rattle.lists.proofs.Tests.{and_left, and_right}
-use Rattle.parts.specs.declared.Number.TheVariants.{Is, Bad}
+use Rattle.std.specs.Prelude.{Some, None}
 use Rattle.parts.specs.Decimal.{is_digit, value, most, is_number, number_in, more_of, spelt, decimal}
 
 ten_pos : (k : ℕ) → 0 < 10 ^ k
 ten_pos zero = omega arith
 ten_pos (suc k) = let h = ten_pos k in rw pow-suc (omega arith)
 
-chosen : (t : Bool) (v m : ℕ) → cond t (Is v) Bad ≡ Is m → (t ≡ true) × (v ≡ m)
+chosen : (t : Bool) (v m : ℕ) → cond t (Some v) None ≡ Some m → (t ≡ true) × (v ≡ m)
 chosen true v m e = (refl, cc)
 chosen false v m e = let z : ◌≡◌ {A = ℕ} 0 1 = cc in absurd (omega arith)
 
-unchosen : (t : Bool) (v : ℕ) → cond t (Is v) Bad ≡ Bad → t ≡ false
+unchosen : (t : Bool) (v : ℕ) → cond t (Some v) None ≡ None → t ≡ false
 unchosen true v e = let z : ◌≡◌ {A = ℕ} 0 1 = cc in absurd (omega arith)
 unchosen false v e = refl
 
-pub more_is : (n b m : ℕ) → more_of n b ≡ Is m → (is_digit b ≡ true) × (m ≡ 10 * n + (b - 48)) × (m ≤ most)
+pub more_is : (n b m : ℕ) → more_of n b ≡ Some m → (is_digit b ≡ true) × (m ≡ 10 * n + (b - 48)) × (m ≤ most)
 unfolding more_of
 more_is n b m e =
     let c = chosen (is_digit b && leb (10 * n + (b - 48)) most) (10 * n + (b - 48)) m e in
@@ -75,7 +75,7 @@ module _ (w : List ℕ) (i n : ℕ) (h : i < length w) (r : Read w i n) where
       go : (x y z u : ℕ) → y ≤ z → x ≡ z + u → y ≤ x
       go x y z u a b = omega arith
 
-  pub read_bad : more_of n (get_or w i 0) ≡ Bad → number_in w ≡ Bad
+  pub read_bad : more_of n (get_or w i 0) ≡ None → number_in w ≡ None
   unfolding more_of number_in is_number
   read_bad e = go (is_digit (get_or w i 0)) refl (unchosen (is_digit (get_or w i 0) && leb (10 * n + (get_or w i 0 - 48)) most) (10 * n + (get_or w i 0 - 48)) e)
     where
@@ -91,12 +91,12 @@ module _ (w : List ℕ) (i n : ℕ) (h : i < length w) (r : Read w i n) where
       last true false c q = refl
       last false b c q = refl
 
-      go : (t : Bool) → is_digit (get_or w i 0) ≡ t → (t && leb (10 * n + (get_or w i 0 - 48)) most) ≡ false → cond (ltb 0 (length w) && (every (length w) (λ p. is_digit (get_or w p 0)) && leb (value w) most)) (Is (value w)) Bad ≡ Bad
+      go : (t : Bool) → is_digit (get_or w i 0) ≡ t → (t && leb (10 * n + (get_or w i 0 - 48)) most) ≡ false → cond (ltb 0 (length w) && (every (length w) (λ p. is_digit (get_or w p 0)) && leb (value w) most)) (Some (value w)) None ≡ None
       go true d q = rw (last (ltb 0 (length w)) (every (length w) (λ p. is_digit (get_or w p 0))) (leb (value w) most) (over q))
       go false d q = rw (both (ltb 0 (length w)) (every (length w) (λ p. is_digit (get_or w p 0))) (leb (value w) most) (every_not (length w) (λ p. is_digit (get_or w p 0)) i h d))
 
 -- all digits are read
-pub read_all : (w : List ℕ) (i n : ℕ) → i ≡ length w → 0 < length w → n ≤ most → every i (λ p. is_digit (get_or w p 0)) ≡ true → Read w i n → number_in w ≡ Is n
+pub read_all : (w : List ℕ) (i n : ℕ) → i ≡ length w → 0 < length w → n ≤ most → every i (λ p. is_digit (get_or w p 0)) ≡ true → Read w i n → number_in w ≡ Some n
 unfolding number_in is_number Read value
 read_all w i n e h l d r =
     let v : value w ≡ n =

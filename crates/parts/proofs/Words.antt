@@ -1,19 +1,21 @@
 -- What is proved of specs/Words.
 -- Assumes nothing.
 use Prim.Native.Nat.{ℕ, zero, suc, ◌+◌, ◌-◌, ◌≤◌, ◌<◌}
-use mathlib.Core.Path.{◌≡◌, refl, sym, ◌∙◌, ap}
-use mathlib.Core.Bool.{Bool, true, false, cond}
-use mathlib.Core.List.{List, [], ◌∷◌, ◌++◌, append_assoc}
+use mathlib.Core.Path.{◌≡◌, refl, ◌∙◌, ap}
+use mathlib.Core.Bool.{Bool, true, false, cond, not}
+use mathlib.Core.List.{List, [], ◌∷◌}
 use native.Mathlib.Nat.{not-suc-le-zero}
 use native.Mathlib.Numerals.{add-one}
 use native.Mathlib.Omega.{arith}
 use lib.Dec.{eqb}
-use lib.ListN.{length, get_or, take, drop, length-drop}
-use lib.Seq.{drop-cons, drop-length, take-suc, get_or-drop}
+use lib.ListN.{length, get_or, take, drop}
+use lib.Seq.{drop-cons, drop-length}
 use borrow.Author.Tests.{eq-eqb, ne_eqb}
+use Rattle.std.specs.List.{count_by, prefix_len}
+use Rattle.std.proofs.lemmas.List.Sums.{sum_by-cons}
 use Rattle.parts.specs.Words.{before, words, word_at}
 
--- what the loops over a line pass, byte by byte
+-- what the loop over a line passes, byte by byte
 pub at_space : (l : List ℕ) (i : ℕ) → i < length l → get_or l i 0 ≡ 32 → words (drop i l) ≡ [] ∷ words (drop (i + 1) l)
 unfolding words
 at_space l i h e = rw (add-one, drop-cons l i 0) (simp (eq-eqb _ _ e))
@@ -52,15 +54,28 @@ unfolding before
 later_before b [] k = refl
 later_before b (w ∷ ws) k = refl
 
+-- one word more than the spaces
+pub count_words : (l : List ℕ) → length (words l) ≡ count_by (λ b. eqb b 32) l + 1
+unfolding words
+count_words [] = refl
+count_words (b ∷ l) = rw (sum_by-cons (λ x. cond (eqb x 32) 1 0) b l) (go (eqb b 32) (count_words l))
+  where
+    go : (t : Bool) → length (words l) ≡ count_by (λ b. eqb b 32) l + 1 → length (cond t ([] ∷ words l) (before b (words l))) ≡ cond t 1 0 + count_by (λ b. eqb b 32) l + 1
+    go true e = omega arith
+    go false e = count_before b (words l) (some_word l) ∙ omega arith
+
+-- the first word ends at the first space
+pub first_word : (l : List ℕ) → word_at l 0 ≡ take (prefix_len (λ b. not (eqb b 32)) l) l
+unfolding word_at words
+first_word [] = refl
+first_word (b ∷ l) = go (eqb b 32) (first_word l)
+  where
+    go : (t : Bool) → word_at l 0 ≡ take (prefix_len (λ b. not (eqb b 32)) l) l → get_or (cond t ([] ∷ words l) (before b (words l))) 0 [] ≡ take (cond (not t) (1 + prefix_len (λ b. not (eqb b 32)) l) 0) (b ∷ l)
+    go true e = refl
+    go false e = first_before b (words l) ∙ ap (λ (w : List ℕ). b ∷ w) e ∙ ap (λ (k : ℕ). take k (b ∷ l)) (let n : suc (prefix_len (λ c. not (eqb c 32)) l) ≡ 1 + prefix_len (λ c. not (eqb c 32)) l = omega arith in n)
+
 module _ (l : List ℕ) (i : ℕ) (h : i < length l) where
-  -- one more byte passed, as the loops count words
-  pub more_words : get_or l i 0 ≡ 32 → length (words (drop i l)) ≡ 1 + length (words (drop (i + 1) l))
-  more_words e = ap length (at_space l i h e) ∙ omega arith
-
-  pub same_words : (get_or l i 0 ≡ 32 → ⊥) → length (words (drop i l)) ≡ length (words (drop (i + 1) l))
-  same_words n = ap length (at_other l i h n) ∙ count_before (get_or l i 0) (words (drop (i + 1) l)) (some_word (drop (i + 1) l))
-
-  -- as they seek the word after k spaces
+  -- one more byte passed, as the loop seeks the word after k spaces
   pub seek_space : (k : ℕ) → (k ≡ 0 → ⊥) → get_or l i 0 ≡ 32 → word_at (drop i l) k ≡ word_at (drop (i + 1) l) (k - 1)
   unfolding word_at
   seek_space zero z e = absurd (z refl)
@@ -72,25 +87,8 @@ module _ (l : List ℕ) (i : ℕ) (h : i < length l) where
   seek_other zero z n = absurd (z refl)
   seek_other (suc k) z n = ap (λ (ws : List (List ℕ)). get_or ws (suc k) []) (at_other l i h n) ∙ later_before (get_or l i 0) (words (drop (i + 1) l)) k
 
-  -- and as they seek the end of a word
-  pub ends_here : get_or l i 0 ≡ 32 → word_at (drop i l) 0 ≡ []
-  unfolding word_at
-  ends_here e = ap (λ (ws : List (List ℕ)). get_or ws 0 []) (at_space l i h e)
-
-  pub goes_on : (get_or l i 0 ≡ 32 → ⊥) → word_at (drop i l) 0 ≡ get_or l i 0 ∷ word_at (drop (i + 1) l) 0
-  unfolding word_at
-  goes_on n = ap (λ (ws : List (List ℕ)). get_or ws 0 []) (at_other l i h n) ∙ first_before (get_or l i 0) (words (drop (i + 1) l))
-
 -- at the end of the line the last word ends, and no other begins
 pub past_end : (l : List ℕ) (i k : ℕ) → i ≡ length l → word_at (drop i l) k ≡ []
 unfolding word_at
 past_end l i zero e = ap (λ (ws : List (List ℕ)). get_or ws 0 []) (at_end l i e)
 past_end l i (suc k) e = ap (λ (ws : List (List ℕ)). get_or ws (suc k) []) (at_end l i e)
-
--- a word's bytes passed from f to i, and one more
-pub grown : (l : List ℕ) (f i : ℕ) (rest : List ℕ) → f ≤ i → i < length l → take (i - f) (drop f l) ++ (get_or l i 0 ∷ rest) ≡ take (i + 1 - f) (drop f l) ++ rest
-grown l f i rest h k =
-    let e : i + 1 - f ≡ suc (i - f) = omega arith in
-    let b : i - f < length (drop f l) = simp length-drop (omega arith) in
-    let g : get_or (drop f l) (i - f) 0 ≡ get_or l i 0 = get_or-drop f l (i - f) 0 ∙ ap (λ (j : ℕ). get_or l j 0) (omega arith) in
-    sym (ap (λ (j : ℕ). take j (drop f l) ++ rest) e ∙ ap (λ (t : List ℕ). t ++ rest) (take-suc (drop f l) (i - f) 0 b ∙ ap (λ (x : ℕ). take (i - f) (drop f l) ++ (x ∷ [])) g) ∙ append_assoc (take (i - f) (drop f l)) (get_or l i 0 ∷ []) rest)

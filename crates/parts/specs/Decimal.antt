@@ -1,9 +1,7 @@
 -- docs/CONSOLE.md: "A number is decimal, at most 18,446,744,073,709,551,615."
 -- Assumes nothing.
-use Rattle.std.specs.Prelude.{ℕ, zero, suc, ◌+◌, ◌-◌, ◌*◌, ◌/◌, ◌%◌, ◌^◌, Bool, cond, ◌&&◌, List, [], ◌∷◌, ◌++◌, leb, ltb, length, get_or}
+use Rattle.std.specs.Prelude.{ℕ, zero, suc, ◌+◌, ◌-◌, ◌*◌, ◌/◌, ◌%◌, ◌^◌, Bool, cond, ◌&&◌, List, [], ◌∷◌, ◌++◌, Option, Some, None, leb, ltb, length, get_or}
 use Rattle.lists.specs.Every.{every}
-use Rattle.parts.specs.declared.Number.{Number}
-use Rattle.parts.specs.declared.Number.TheVariants.{Is, Bad}
 
 -- the bytes from 0 to 9
 unfoldable pub is_digit : ℕ → Bool
@@ -21,12 +19,12 @@ most = 18446744073709551615
 unfoldable pub is_number : List ℕ → Bool
 is_number w = ltb 0 (length w) && (every (length w) (λ p. is_digit (get_or w p 0)) && leb (value w) most)
 
-unfoldable pub number_in : List ℕ → Number
-number_in w = cond (is_number w) (Is (value w)) Bad
+unfoldable pub number_in : List ℕ → Option ℕ
+number_in w = cond (is_number w) (Some (value w)) None
 
 -- one digit more
-unfoldable pub more_of : ℕ → ℕ → Number
-more_of n b = cond (is_digit b && leb (10 * n + (b - 48)) most) (Is (10 * n + (b - 48))) Bad
+unfoldable pub more_of : ℕ → ℕ → Option ℕ
+more_of n b = cond (is_digit b && leb (10 * n + (b - 48)) most) (Some (10 * n + (b - 48))) None
 
 -- the digits of a number, in at most k places
 unfoldable pub spelt : ℕ → ℕ → List ℕ

@@ -1,10 +1,8 @@
 -- docs/CONSOLE.md: "HEX is pairs of hex digits in either case, `-` for no bytes."
 -- Assumes nothing.
-use Rattle.std.specs.Prelude.{ℕ, ◌+◌, ◌-◌, ◌*◌, ◌/◌, ◌%◌, Bool, cond, ◌&&◌, ◌||◌, List, [], ◌∷◌, ◌++◌, leb, ltb, eqb, length, get_or, drop}
+use Rattle.std.specs.Prelude.{ℕ, ◌+◌, ◌-◌, ◌*◌, ◌/◌, ◌%◌, Bool, cond, ◌&&◌, ◌||◌, List, [], ◌∷◌, ◌++◌, Option, Some, None, leb, ltb, eqb, length, get_or, drop}
 use Rattle.lists.specs.Every.{every}
 use Rattle.lists.specs.Places.{tabulate}
-use Rattle.parts.specs.declared.Bytes.{Bytes}
-use Rattle.parts.specs.declared.Bytes.TheVariants.{Are, Bad}
 
 -- what a hex digit says: 0 to 9, A to F, a to f; 16 for any other byte
 unfoldable pub nibble_of : ℕ → ℕ
@@ -16,6 +14,10 @@ nibble_of b =
 
 unfoldable pub is_hex : ℕ → Bool
 is_hex b = ltb (nibble_of b) 16
+
+-- what a byte says, if it is a hex digit
+unfoldable pub digit_in : ℕ → Option ℕ
+digit_in b = cond (is_hex b) (Some (nibble_of b)) None
 
 -- what two hex digits say
 abbrev pub pair_of : ℕ → ℕ → ℕ
@@ -44,8 +46,8 @@ is_pairs w = ltb 0 (length w) && (eqb (length w % 2) 0 && every (length w) (λ p
 unfoldable pub takes : List ℕ → List ℕ → Bool
 takes w room = (is_dash w || is_pairs w) && leb (length w / 2) (length room)
 
-unfoldable pub bytes_of : List ℕ → List ℕ → Bytes
-bytes_of w room = cond (takes w room) (Are (length w / 2)) Bad
+unfoldable pub bytes_of : List ℕ → List ℕ → Option ℕ
+bytes_of w room = cond (takes w room) (Some (length w / 2)) None
 
 -- the room afterwards: the bytes, and what stood after them; if the word is not taken, as it was
 unfoldable pub room_after : List ℕ → List ℕ → List ℕ

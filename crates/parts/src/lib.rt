@@ -1,36 +1,26 @@
 // The words of a line, each parted from the next by one space, and the numbers and bytes that they are.
 #![tactic(auto)]
 
-ghost use Rattle.std.specs.Prelude.{◌≡◌, true, ◌++◌, ◌≤◌, ◌/◌, ◌-◌, length, take, drop, get_or};
+ghost use Rattle.std.specs.Prelude.{◌≡◌, ◌==◌, true, not, ◌++◌, ◌≤◌, ◌/◌, length, take, drop, get_or};
+ghost use Rattle.std.specs.List.{prefix_len};
 ghost use Rattle.lists.specs.Every.{every};
 ghost use Rattle.parts.specs.Decimal.{more_of, number_in};
-ghost use Rattle.parts.specs.Hex.{nibble_of, is_hex, pair_of, bytes_in, bytes_of, room_after};
-ghost use Rattle.parts.specs.Numbers.{numbers_in, no_numbers};
+ghost use Rattle.parts.specs.Hex.{digit_in, is_hex, pair_of, bytes_in, bytes_of, room_after};
+ghost use Rattle.parts.specs.Numbers.{numbers_in};
 ghost use Rattle.parts.specs.Words.{words, word_at};
 
 // The first bytes of a slice, as far as they go.
 pub fn front(bytes: &[u8], n: usize) -> &[u8]
     ensures { result.now ≡ take n bytes.now }
 {
-    if n <= bytes.len() {
-        return &bytes[..n];
-    }
-    bytes
+    &bytes[..n.min(bytes.len())]
 }
 
 // One more than the spaces: an empty word is counted, and is no command, number or bytes.
 pub fn count(line: &[u8]) -> usize
     ensures { result ≡ length (words line.now) }
 {
-    let mut n: usize = 1;
-    let mut i = 0;
-    while i < line.len() {
-        if line[i] == b' ' {
-            n += 1;
-        }
-        i += 1;
-    }
-    n
+    line.iter().filter(|b| **b == b' ').count() + 1
 }
 
 // Where the word begins that stands after so many spaces.
@@ -38,150 +28,95 @@ fn start(line: &[u8], spaces: usize) -> usize
     ensures { (result ≤ length line.now) × (word_at (drop result line.now) 0 ≡ word_at line.now spaces) }
 {
     let mut left = spaces;
-    let mut i = 0;
-    while i < line.len() {
+    for (i, b) in line.iter().enumerate() {
         if left == 0 {
             return i;
         }
-        if line[i] == b' ' {
+        if *b == b' ' {
             left -= 1;
         }
-        i += 1;
     }
-    i
+    line.len()
 }
 
-// Where the word ends that begins there.
-fn end(line: &[u8], from: usize) -> usize
-    requires { from ≤ length line.now }
-    ensures { (from ≤ result) × (result ≤ length line.now) × (take (result - from) (drop from line.now) ≡ word_at (drop from line.now) 0) }
+// Where a line's first word ends.
+fn end(line: &[u8]) -> usize
+    ensures { result ≡ prefix_len (λ b. not (b == 32)) line.now }
 {
-    let mut i = from;
-    while i < line.len() {
-        if line[i] == b' ' {
-            return i;
-        }
-        i += 1;
-    }
-    i
+    line.iter().take_while(|b| **b != b' ').count()
 }
 
 pub fn word(line: &[u8], k: usize) -> &[u8]
     ensures { result.now ≡ word_at line.now k }
 {
-    let from = start(line, k);
-    let to = end(line, from);
-    &line[from..to]
-}
-
-#[derive(Clone, Copy)]
-pub enum Number {
-    Is(u64),
-    Bad,
+    let rest = &line[start(line, k)..];
+    &rest[..end(rest)]
 }
 
 // One digit more, unless the number is then over 64 bits.
-fn more(n: u64, b: u8) -> Number
+fn more(n: u64, b: u8) -> Option<u64>
     ensures { result ≡ more_of n b }
 {
-    if b < b'0' {
-        return Number::Bad;
+    if !b.is_ascii_digit() {
+        return None;
     }
-    if b'9' < b {
-        return Number::Bad;
-    }
-    let d = (b - b'0') as u64;
-    if (18_446_744_073_709_551_615 - d) / 10 < n {
-        return Number::Bad;
-    }
-    Number::Is(10 * n + d)
+    n.checked_mul(10)?.checked_add((b - b'0') as u64)
 }
 
 // Zeros may stand in front: what counts is the number.
-pub fn number_of(word: &[u8]) -> Number
+pub fn number_of(word: &[u8]) -> Option<u64>
     ensures { result ≡ number_in word.now }
 {
-    if word.len() < 1 {
-        return Number::Bad;
+    if word.is_empty() {
+        return None;
     }
-    let mut n: u64 = 0;
-    let mut i = 0;
-    while i < word.len() {
-        match more(n, word[i]) {
-            Number::Is(m) => n = m,
-            Number::Bad => return Number::Bad,
-        }
-        i += 1;
+    let mut n = 0;
+    for b in word {
+        n = more(n, *b)?;
     }
-    Number::Is(n)
+    Some(n)
 }
 
 // The numbers of a line after its command, if there are just so many and each is one.
-#[derive(Clone, Copy)]
-pub struct Numbers {
-    pub n: [u64; 9],
-    pub ok: bool,
-}
-
-fn no_numbers() -> Numbers
-    ensures { result ≡ no_numbers }
-{
-    let n = [0u64; 9];
-    Numbers { n, ok: false }
-}
-
-pub fn numbers_of(line: &[u8], many: usize) -> Numbers
+#[tactic(auto, using(crate::proofs::NumbersLaws::too_many, crate::proofs::NumbersLaws::other_count))]
+pub fn numbers_of(line: &[u8], many: usize) -> Option<[u64; 9]>
     ensures { result ≡ numbers_in line.now many }
 {
-    let mut n = [0u64; 9];
-    if 9 < many {
-        return no_numbers();
+    let mut n = [0; 9];
+    if n.len() < many || count(line) != many + 1 {
+        return None;
     }
-    if count(line) != many + 1 {
-        return no_numbers();
+    for i in 0..many {
+        n[i] = number_of(word(line, i + 1))?;
     }
-    let mut i = 0;
-    while i < many {
-        match number_of(word(line, i + 1)) {
-            Number::Is(m) => n[i] = m,
-            Number::Bad => return no_numbers(),
-        }
-        i += 1;
-    }
-    Numbers { n, ok: true }
+    Some(n)
 }
 
-// 16 for a byte that is no hex digit.
-fn nibble(b: u8) -> u8
-    ensures { result ≡ nibble_of b }
+// What a hex digit says.
+fn nibble(b: u8) -> Option<u8>
+    ensures { result ≡ digit_in b }
 {
     match b {
-        b'0'..=b'9' => b - b'0',
-        b'A'..=b'F' => b - b'A' + 10,
-        b'a'..=b'f' => b - b'a' + 10,
-        _ => 16,
+        b'0'..=b'9' => Some(b - b'0'),
+        b'A'..=b'F' => Some(b - b'A' + 10),
+        b'a'..=b'f' => Some(b - b'a' + 10),
+        _ => None,
     }
 }
 
 fn all_hex(word: &[u8]) -> bool
     ensures { result ≡ every (length word.now) (λ p. is_hex (get_or word.now p 0)) }
 {
-    let mut i = 0;
-    while i < word.len() {
-        if 15 < nibble(word[i]) {
-            return false;
-        }
-        i += 1;
-    }
-    true
+    word.iter().all(|b| b.is_ascii_hexdigit())
 }
 
+#[tactic(auto, using(crate::proofs::Hex::digit_is, crate::proofs::Hex::hex_small))]
 fn pair(high: u8, low: u8) -> u8
     requires high_value { is_hex high ≡ true }
     requires low_value { is_hex low ≡ true }
     ensures { result ≡ pair_of high low }
 {
-    16 * nibble(high) + nibble(low)
+    16 * nibble(high).unwrap() + nibble(low).unwrap()
 }
 
 fn fill(word: &[u8], room: &mut [u8])
@@ -189,43 +124,22 @@ fn fill(word: &[u8], room: &mut [u8])
     requires p_value { every (length word.now) (λ p. is_hex (get_or word.now p 0)) ≡ true }
     ensures { room.new ≡ bytes_in word.now ++ drop (length word.now / 2) room.old }
 {
-    let mut i = 0;
-    while i < word.len() / 2 {
+    for i in 0..word.len() / 2 {
         room[i] = pair(word[2 * i], word[2 * i + 1]);
-        i += 1;
     }
 }
 
-#[derive(Clone, Copy)]
-pub enum Bytes {
-    // So many, from the room's start on.
-    Are(usize),
-    Bad,
-}
-
-// Pairs of hex digits in either case, or `-` for no bytes. A bad word leaves the room as it is.
-pub fn bytes_of(word: &[u8], room: &mut [u8]) -> Bytes
+// Pairs of hex digits in either case, or `-` for no bytes: how many bytes, from the room's start on. A bad word leaves the room as it is.
+pub fn bytes_of(word: &[u8], room: &mut [u8]) -> Option<usize>
     ensures { (result ≡ bytes_of word.now room.old) × (room.new ≡ room_after word.now room.old) }
 {
+    if word == b"-".as_slice() {
+        return Some(0);
+    }
     let n = word.len() / 2;
-    if word.len() == 1 {
-        if word[0] == b'-' {
-            return Bytes::Are(0);
-        }
-        return Bytes::Bad;
-    }
-    if word.len() < 1 {
-        return Bytes::Bad;
-    }
-    if word.len() % 2 != 0 {
-        return Bytes::Bad;
-    }
-    if room.len() < n {
-        return Bytes::Bad;
-    }
-    if !all_hex(word) {
-        return Bytes::Bad;
+    if word.is_empty() || word.len() % 2 != 0 || room.len() < n || !all_hex(word) {
+        return None;
     }
     fill(word, room);
-    Bytes::Are(n)
+    Some(n)
 }

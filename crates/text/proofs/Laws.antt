@@ -20,8 +20,7 @@ use Rattle.parts.specs.Hex.{nibble_of, is_hex, pair_of, glyph_of, hex_of, bytes_
 use Rattle.parts.proofs.Hex.{took, pairs}
 use Rattle.parts.specs.Words.{before, words}
 use Rattle.parts.proofs.Words.{some_word}
-use Rattle.parts.specs.declared.Bytes.TheVariants.{Are}
-use Rattle.parts.specs.declared.Number.TheVariants.{Is}
+use Rattle.std.specs.Prelude.{Some}
 
 -- words with a space before each
 unfoldable pub spaced : List (List ℕ) → List ℕ
@@ -151,7 +150,7 @@ spelt_says (suc k) n h = go (ltb n 10) refl (spelt_says k (n / 10) (tenth (suc k
     go false e s = more_says (spelt (suc k) (n / 10)) n s
 
 -- a number that is written reads back as that number
-pub number_back : (n : ℕ) → n ≤ most → number_in (decimal n) ≡ Is n
+pub number_back : (n : ℕ) → n ≤ most → number_in (decimal n) ≡ Some n
 unfolding decimal number_in is_number
 number_back n h =
     let s = spelt_says 19 n (omega arith) in
@@ -237,9 +236,9 @@ module _ (bytes : List ℕ) (small : (p : ℕ) → p < length bytes → get_or b
       omega arith))
 
   -- bytes that are written read back as those bytes
-  pub bytes_back : (room : List ℕ) → 0 < length bytes → length bytes ≤ length room → (Are (length bytes) ≡ bytes_of (hex_of bytes) room) × (bytes ++ drop (length bytes) room ≡ room_after (hex_of bytes) room)
+  pub bytes_back : (room : List ℕ) → 0 < length bytes → length bytes ≤ length room → (Some (length bytes) ≡ bytes_of (hex_of bytes) room) × (bytes ++ drop (length bytes) room ≡ room_after (hex_of bytes) room)
   bytes_back room h l =
       let n = hex_length bytes in
       let e : length (hex_of bytes) / 2 ≡ length bytes = omega arith in
       let t = took (hex_of bytes) room (pairs (hex_of bytes) room (omega arith) (omega arith) (omega arith) (every_of (length (hex_of bytes)) (λ p. is_hex (get_or (hex_of bytes) p 0)) hex_each)) in
-      (ap Are (sym e) ∙ t.0, ap₂ (λ (b : List ℕ) (k : ℕ). b ++ drop k room) (sym hex_back) (sym e) ∙ t.1)
+      (ap Some (sym e) ∙ t.0, ap₂ (λ (b : List ℕ) (k : ℕ). b ++ drop k room) (sym hex_back) (sym e) ∙ t.1)

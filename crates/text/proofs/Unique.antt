@@ -3,9 +3,7 @@
 use Prim.Native.Nat.{ℕ}
 use mathlib.Core.Path.{◌≡◌, sym, ◌∙◌}
 use mathlib.Core.List.{List}
-use Rattle.parts.specs.declared.Bytes.{Bytes}
-use Rattle.parts.specs.declared.Number.{Number}
-use Rattle.parts.specs.declared.Numbers.{Numbers}
+use Rattle.std.specs.Prelude.{Option}
 use Rattle.text.specs.Unique.{One, OneWith, Unique}
 
 one : (A : Type 0) (x : A) → One A (λ r. r ≡ x)
@@ -20,12 +18,12 @@ unique =
       parts_front = λ bytes n. one (List ℕ) _;
       parts_count = λ line. one ℕ _;
       parts_word = λ line k. one (List ℕ) _;
-      parts_number_of = λ word. one Number _;
-      parts_numbers_of = λ line many. one Numbers _;
-      parts_bytes_of = λ word room. two Bytes _ _;
-      text_text = λ out at bytes. two ℕ _ _;
-      text_number = λ out at n. two ℕ _ _;
-      text_hex = λ out at bytes. two ℕ _ _;
-      text_end = λ out at. two ℕ _ _;
-      text_line = λ out at bytes. two ℕ _ _;
+      parts_number_of = λ word. one (Option ℕ) _;
+      parts_numbers_of = λ line many. one (Option (List ℕ)) _;
+      parts_bytes_of = λ word room. two (Option ℕ) _ _;
+      text_text = λ room at bytes. two ℕ _ _;
+      text_number = λ room at n. two ℕ _ _;
+      text_hex = λ room at bytes. two ℕ _ _;
+      text_end = λ room at. two ℕ _ _;
+      text_line = λ room at bytes. two ℕ _ _;
     }

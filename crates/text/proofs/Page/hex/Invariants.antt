@@ -1,0 +1,8 @@
+-- The digits of the bytes passed are put.
+use Rattle.std.proofs.Common.{◌≡◌, take}
+use Rattle.parts.specs.Hex.{hex_of}
+use Rattle.text.proofs.Room.{Put}
+use Rattle.text.proofs.Page.hex.Given as goal
+
+abbrev pub invariant-loop-b : goal.invariant-loop-b
+invariant-loop-b l = (l.self.room.ghost_name ≡ l.fn.self.room.ghost_name) × Put l.fn.self.room.now l.fn.self.at (hex_of (take l.b-index l.bytes)) l.self.at l.self.room.now
