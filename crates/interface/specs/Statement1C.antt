@@ -6,19 +6,19 @@
 use Rattle.std.specs.Prelude.{ℕ, ◌≡◌, Bool, not, List, [], ◌∷◌, eqb, length}
 use Rattle.lists.specs.Ladder.{ladder}
 use Rattle.cells.specs.Cells.{cells_long, table_of, is_table}
-use Rattle.cells.specs.Lent.{cells_told, cells_read, cells_ticked, cells_cold}
+use Rattle.cells.specs.Lent.{cells_told, cells_cold}
 use Rattle.replies.specs.Calls.{cold_refusals, control_refusals, status_refusals, request_refusals, request}
 use Rattle.replies.specs.OnCells.{start_on, control_on, status_on, request_on}
 use Rattle.passes.specs.OnCells.{tick_on}
 use Rattle.passes.specs.Tick.{tick_refusals, tick}
-use Rattle.image.specs.Image.{imageable, room_after, image_long}
-use Rattle.image.specs.Load.{reads, cells_restored}
-use Rattle.reader.specs.Read.{read_refusals}
-use Rattle.search.specs.Search.{search_refusals}
+use Rattle.image.specs.Image.{imageable, save as save_call, room_after, image_long}
+use Rattle.image.specs.Load.{reads, restore as restore_call, cells_restored}
+use Rattle.reader.specs.Read.{read_refusals, read_of}
+use Rattle.search.specs.Search.{search_refusals, search_of}
 use Rattle.writer.specs.Write.{write_refusals}
-use Rattle.ipaqsuni.specs.Calls.{answer_number, status_number, word_left, tick_number, mask_a_left, mask_b_left, closed_left, save_number, restore_number}
+use Rattle.ipaqsuni.specs.Calls.{word_left, mask_a_left, mask_b_left, closed_left}
 use Rattle.ipaqsuni.specs.Outcome.{number_of, leaves}
-use Rattle.ipaqsuni.specs.Tlv.{find_call, offset_found, size_found, read_call, numbers_of, fields_given, write_call, room_written, size_written}
+use Rattle.ipaqsuni.specs.Tlv.{offset_found, size_found, numbers_of, fields_given, write_call, room_written, size_written}
 use Rattle.numbers.specs.Numbers.{no_fields}
 
 -- the first number whose condition holds, and 0 if none does
@@ -59,29 +59,29 @@ Refuses number = number ≡ 0 → ⊥
 
 pub record FirstC : Type 0 where
   -- the number that each function answers
-  pub cold_start : (cells : List ℕ) (ports : ℕ) → answer_number (start_on cells ports).answer ≡ first_number (start_list cells ports)
-  pub write_control : (cells : List ℕ) (port word : ℕ) → answer_number (control_on cells port word).answer ≡ first_number (control_list cells port word)
-  pub read_status : (cells : List ℕ) (port : ℕ) → status_number (status_on cells port).answer ≡ first_number (status_list cells port)
-  pub request : (cells : List ℕ) (port value : ℕ) → answer_number (request_on cells port value).answer ≡ first_number (request_list cells port value)
-  pub tick : (cells samples : List ℕ) (supply : ℕ) → tick_number (tick_on cells samples supply).answer ≡ first_number (tick_list cells samples supply)
-  pub save : (cells image : List ℕ) → save_number cells image ≡ first_number (save_list cells image)
-  pub restore : (cells image : List ℕ) → restore_number image cells ≡ first_number (restore_list image cells)
-  pub find : (pdu : List ℕ) → number_of (find_call pdu) ≡ first_number (search_refusals pdu)
-  pub read : (tlv : List ℕ) → number_of (read_call tlv) ≡ first_number (read_refusals tlv)
+  pub cold_start : (cells : List ℕ) (ports : ℕ) → number_of (start_on cells ports).answer ≡ first_number (start_list cells ports)
+  pub write_control : (cells : List ℕ) (port word : ℕ) → number_of (control_on cells port word).answer ≡ first_number (control_list cells port word)
+  pub read_status : (cells : List ℕ) (port : ℕ) → number_of (status_on cells port).answer ≡ first_number (status_list cells port)
+  pub request : (cells : List ℕ) (port value : ℕ) → number_of (request_on cells port value).answer ≡ first_number (request_list cells port value)
+  pub tick : (cells samples : List ℕ) (supply : ℕ) → number_of (tick_on cells samples supply).answer ≡ first_number (tick_list cells samples supply)
+  pub save : (cells image : List ℕ) → number_of (save_call cells image) ≡ first_number (save_list cells image)
+  pub restore : (cells image : List ℕ) → number_of (restore_call image cells) ≡ first_number (restore_list image cells)
+  pub find : (pdu : List ℕ) → number_of (search_of pdu) ≡ first_number (search_refusals pdu)
+  pub read : (tlv : List ℕ) → number_of (read_of tlv) ≡ first_number (read_refusals tlv)
   pub write : (fields room : List ℕ) → number_of (write_call fields room) ≡ first_number (write_list fields room)
   -- "each refusal changes no table and writes no byte": every cell and every place that was lent is as before
-  pub cold_start_kept : (cells : List ℕ) (ports : ℕ) → Refuses (answer_number (start_on cells ports).answer) → cells_cold (start_on cells ports) cells ≡ cells
-  pub write_control_kept : (cells : List ℕ) (port word : ℕ) → Refuses (answer_number (control_on cells port word).answer) → cells_told (control_on cells port word) cells ≡ cells
-  pub read_status_kept : (cells : List ℕ) (port status : ℕ) → Refuses (status_number (status_on cells port).answer)
-      → (cells_read (status_on cells port) cells ≡ cells) × (word_left (status_on cells port).answer status ≡ status)
-  pub request_kept : (cells : List ℕ) (port value : ℕ) → Refuses (answer_number (request_on cells port value).answer) → cells_told (request_on cells port value) cells ≡ cells
-  pub tick_kept : (cells samples : List ℕ) (supply a b closed : ℕ) → Refuses (tick_number (tick_on cells samples supply).answer)
-      → (cells_ticked (tick_on cells samples supply) cells ≡ cells) × (mask_a_left (tick_on cells samples supply).answer a ≡ a)
+  pub cold_start_kept : (cells : List ℕ) (ports : ℕ) → Refuses (number_of (start_on cells ports).answer) → cells_cold (start_on cells ports) cells ≡ cells
+  pub write_control_kept : (cells : List ℕ) (port word : ℕ) → Refuses (number_of (control_on cells port word).answer) → cells_told (control_on cells port word) cells ≡ cells
+  pub read_status_kept : (cells : List ℕ) (port status : ℕ) → Refuses (number_of (status_on cells port).answer)
+      → (cells_told (status_on cells port) cells ≡ cells) × (word_left (status_on cells port).answer status ≡ status)
+  pub request_kept : (cells : List ℕ) (port value : ℕ) → Refuses (number_of (request_on cells port value).answer) → cells_told (request_on cells port value) cells ≡ cells
+  pub tick_kept : (cells samples : List ℕ) (supply a b closed : ℕ) → Refuses (number_of (tick_on cells samples supply).answer)
+      → (cells_told (tick_on cells samples supply) cells ≡ cells) × (mask_a_left (tick_on cells samples supply).answer a ≡ a)
       × (mask_b_left (tick_on cells samples supply).answer b ≡ b) × (closed_left (tick_on cells samples supply).answer closed ≡ closed)
-  pub save_kept : (cells image : List ℕ) → Refuses (save_number cells image) → room_after cells image ≡ image
-  pub restore_kept : (cells image : List ℕ) → Refuses (restore_number image cells) → cells_restored image cells ≡ cells
-  pub find_kept : (pdu : List ℕ) (offset length : ℕ) → Refuses (number_of (find_call pdu))
-      → (leaves offset_found (find_call pdu) offset ≡ offset) × (leaves size_found (find_call pdu) length ≡ length)
-  pub read_kept : (tlv fields : List ℕ) → Refuses (number_of (read_call tlv)) → leaves numbers_of (read_call tlv) fields ≡ fields
+  pub save_kept : (cells image : List ℕ) → Refuses (number_of (save_call cells image)) → room_after cells image ≡ image
+  pub restore_kept : (cells image : List ℕ) → Refuses (number_of (restore_call image cells)) → cells_restored image cells ≡ cells
+  pub find_kept : (pdu : List ℕ) (offset length : ℕ) → Refuses (number_of (search_of pdu))
+      → (leaves offset_found (search_of pdu) offset ≡ offset) × (leaves size_found (search_of pdu) length ≡ length)
+  pub read_kept : (tlv fields : List ℕ) → Refuses (number_of (read_of tlv)) → leaves numbers_of (read_of tlv) fields ≡ fields
   pub write_kept : (fields room : List ℕ) (written : ℕ) → Refuses (number_of (write_call fields room))
       → (leaves room_written (write_call fields room) room ≡ room) × (leaves size_written (write_call fields room) written ≡ written)

@@ -1,5 +1,3 @@
-pub mod Calls
 mod Numbers
-mod Saved
 
--- What the proofs of several functions use.
+-- What the reader takes, as C is answered it.

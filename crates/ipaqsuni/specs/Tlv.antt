@@ -1,25 +1,14 @@
 -- The calls on a PDU and on a power TLV, whose fields are nine numbers: form (7 or 12), support, pair, class, type, source, priority,
 -- requested, allocated (the last five 0 for form 7).
-use Rattle.std.specs.Prelude.{ℕ, ◌<◌, ◌^◌, cond, List, [], ◌∷◌, get_or}
-use Rattle.reader.specs.Read.{read_of}
-use Rattle.search.specs.Search.{search_of}
+use Rattle.std.specs.Prelude.{ℕ, ◌<◌, ◌^◌, cond, List, [], ◌∷◌, get_or, Result, Ok, Err}
+use Rattle.sizes.specs.Refused.{refused}
+use Rattle.sizes.specs.declared.refusals.Refusal.{Refusal}
+use Rattle.search.specs.declared.Found.{Found}
 use Rattle.writer.specs.Write.{written_of, room_after}
 use Rattle.fields.specs.declared.Fields.{Fields}
 use Rattle.fields.specs.declared.Form.{Form}
 use Rattle.fields.specs.declared.Form.TheVariants.{Short, Long}
-use Rattle.reader.specs.declared.ReadAnswer.{ReadAnswer}
-use Rattle.reader.specs.declared.ReadAnswer.TheVariants.{Is as Took, Refused as NotTaken}
-use Rattle.search.specs.declared.Searched.{Searched}
-use Rattle.search.specs.declared.Searched.TheVariants.{Is as Found, Refused as NotFound}
-use Rattle.writer.specs.declared.Written.{Written}
-use Rattle.writer.specs.declared.Written.TheVariants.{Is as Wrote, Refused as NotWritten}
 use Rattle.numbers.specs.Numbers.{no_fields, form_given}
-use Rattle.ipaqsuni.specs.Outcome.{Outcome, refused, accepted}
-
--- the part of a PDU that is its power TLV
-pub record Part : Type 0 where
-  pub offset : ℕ
-  pub size : ℕ
 
 -- a room with a TLV written into it, and how long that is
 pub record Filled : Type 0 where
@@ -27,23 +16,9 @@ pub record Filled : Type 0 where
   pub size : ℕ
 
 -- what the core answers
-abbrev pub of_search : Searched → Outcome Part
-of_search (Found at n) = accepted (record { offset = at; size = n })
-of_search (NotFound number) = refused number
-
-abbrev pub of_read : ReadAnswer → Outcome Fields
-of_read (Took f) = accepted f
-of_read (NotTaken number) = refused number
-
-abbrev pub of_write : List ℕ → Written → Outcome Filled
-of_write after (Wrote n) = accepted (record { room = after; size = n })
-of_write after (NotWritten number) = refused number
-
-unfoldable pub find_call : List ℕ → Outcome Part
-find_call pdu = of_search (search_of pdu)
-
-unfoldable pub read_call : List ℕ → Outcome Fields
-read_call tlv = of_read (read_of tlv)
+abbrev pub of_write : List ℕ → Result ℕ Refusal → Result Filled Refusal
+of_write after (Ok n) = Ok (record { room = after; size = n })
+of_write after (Err refusal) = Err refusal
 
 -- a TLV's fields as nine numbers
 abbrev pub form_number : Form → ℕ
@@ -68,14 +43,14 @@ unfoldable pub fields_given : List ℕ → Fields
 fields_given n = record { support = get_or n 1 0; pair = get_or n 2 0; class = get_or n 3 0; form = form_given n }
 
 -- refusal 3 of the nine numbers comes first, so that "Writing: 3, 10, 1." holds of the whole
-unfoldable pub write_call : List ℕ → List ℕ → Outcome Filled
+unfoldable pub write_call : List ℕ → List ℕ → Result Filled Refusal
 write_call n room = cond (no_fields n) (refused 3) (of_write (room_after (fields_given n) room) (written_of (fields_given n) room))
 
 -- what an accepted call leaves in each lent place
-abbrev pub offset_found : Part → ℕ
-offset_found p = p.offset
+abbrev pub offset_found : Found → ℕ
+offset_found p = p.start
 
-abbrev pub size_found : Part → ℕ
+abbrev pub size_found : Found → ℕ
 size_found p = p.size
 
 abbrev pub room_written : Filled → List ℕ

@@ -1,15 +1,16 @@
 // The calls on a table that the caller lends as cells, and its image, as C calls them.
 ghost use Rattle.std.specs.Prelude.{◌≡◌};
-ghost use Rattle.cells.specs.Lent.{cells_told, cells_read, cells_ticked, cells_cold};
+ghost use Rattle.cells.specs.Lent.{cells_told, cells_cold};
 ghost use Rattle.replies.specs.OnCells.{start_on, control_on, status_on, request_on};
 ghost use Rattle.passes.specs.OnCells.{tick_on};
-ghost use Rattle.image.specs.Image.{room_after};
-ghost use Rattle.image.specs.Load.{cells_restored};
-ghost use Rattle.ipaqsuni.specs.Calls.{answer_number, status_number, word_left, tick_number, mask_a_left, mask_b_left, closed_left, save_number, restore_number};
+ghost use Rattle.image.specs.Image.{save, room_after};
+ghost use Rattle.image.specs.Load.{restore, cells_restored};
+ghost use Rattle.ipaqsuni.specs.Outcome.{number_of};
+ghost use Rattle.ipaqsuni.specs.Calls.{word_left, mask_a_left, mask_b_left, closed_left};
 
 #[unsafe(no_mangle)]
 pub extern "C" fn ipaqsuni_cold_start(cells: &mut [u16], ports: u32) -> u32
-    ensures value { result ≡ answer_number (start_on cells.old ports).answer }
+    ensures value { result ≡ number_of (start_on cells.old ports).answer }
     ensures cells_after { cells.new ≡ cells_cold (start_on cells.old ports) cells.old }
 {
     ipaqsuni::tables::ipaqsuni_cold_start(cells, ports)
@@ -17,7 +18,7 @@ pub extern "C" fn ipaqsuni_cold_start(cells: &mut [u16], ports: u32) -> u32
 
 #[unsafe(no_mangle)]
 pub extern "C" fn ipaqsuni_write_control(cells: &mut [u16], port: u32, word: u32) -> u32
-    ensures value { result ≡ answer_number (control_on cells.old port word).answer }
+    ensures value { result ≡ number_of (control_on cells.old port word).answer }
     ensures cells_after { cells.new ≡ cells_told (control_on cells.old port word) cells.old }
 {
     ipaqsuni::tables::ipaqsuni_write_control(cells, port, word)
@@ -25,8 +26,8 @@ pub extern "C" fn ipaqsuni_write_control(cells: &mut [u16], port: u32, word: u32
 
 #[unsafe(no_mangle)]
 pub extern "C" fn ipaqsuni_read_status(cells: &mut [u16], port: u32, status: &mut u32) -> u32
-    ensures value { result ≡ status_number (status_on cells.old port).answer }
-    ensures cells_after { cells.new ≡ cells_read (status_on cells.old port) cells.old }
+    ensures value { result ≡ number_of (status_on cells.old port).answer }
+    ensures cells_after { cells.new ≡ cells_told (status_on cells.old port) cells.old }
     ensures status_after { status.new ≡ word_left (status_on cells.old port).answer status.old }
 {
     ipaqsuni::tables::ipaqsuni_read_status(cells, port, status)
@@ -34,7 +35,7 @@ pub extern "C" fn ipaqsuni_read_status(cells: &mut [u16], port: u32, status: &mu
 
 #[unsafe(no_mangle)]
 pub extern "C" fn ipaqsuni_request(cells: &mut [u16], port: u32, value: u32) -> u32
-    ensures value { result ≡ answer_number (request_on cells.old port value).answer }
+    ensures value { result ≡ number_of (request_on cells.old port value).answer }
     ensures cells_after { cells.new ≡ cells_told (request_on cells.old port value) cells.old }
 {
     ipaqsuni::tables::ipaqsuni_request(cells, port, value)
@@ -49,8 +50,8 @@ pub extern "C" fn ipaqsuni_tick(
     b: &mut u64,
     closed: &mut u32,
 ) -> u32
-    ensures value { result ≡ tick_number (tick_on cells.old samples.now supply).answer }
-    ensures cells_after { cells.new ≡ cells_ticked (tick_on cells.old samples.now supply) cells.old }
+    ensures value { result ≡ number_of (tick_on cells.old samples.now supply).answer }
+    ensures cells_after { cells.new ≡ cells_told (tick_on cells.old samples.now supply) cells.old }
     ensures a_after { a.new ≡ mask_a_left (tick_on cells.old samples.now supply).answer a.old }
     ensures b_after { b.new ≡ mask_b_left (tick_on cells.old samples.now supply).answer b.old }
     ensures closed_after { closed.new ≡ closed_left (tick_on cells.old samples.now supply).answer closed.old }
@@ -60,7 +61,7 @@ pub extern "C" fn ipaqsuni_tick(
 
 #[unsafe(no_mangle)]
 pub extern "C" fn ipaqsuni_save(cells: &[u16], image: &mut [u8]) -> u32
-    ensures value { result ≡ save_number cells.now image.old }
+    ensures value { result ≡ number_of (save cells.now image.old) }
     ensures image_after { image.new ≡ room_after cells.now image.old }
 {
     ipaqsuni::tables::ipaqsuni_save(cells, image)
@@ -68,7 +69,7 @@ pub extern "C" fn ipaqsuni_save(cells: &[u16], image: &mut [u8]) -> u32
 
 #[unsafe(no_mangle)]
 pub extern "C" fn ipaqsuni_restore(cells: &mut [u16], image: &[u8]) -> u32
-    ensures value { result ≡ restore_number image.now cells.old }
+    ensures value { result ≡ number_of (restore image.now cells.old) }
     ensures cells_after { cells.new ≡ cells_restored image.now cells.old }
 {
     ipaqsuni::tables::ipaqsuni_restore(cells, image)

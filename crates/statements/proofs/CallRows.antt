@@ -3,27 +3,26 @@
 use mathlib.Core.Path.{◌≡◌, refl}
 use mathlib.Core.Bool.{Bool}
 use mathlib.Core.List.{[], ◌∷◌, map}
+use Rattle.std.specs.Prelude.{Ok}
 use Rattle.lists.specs.Bytes.{word_at}
 use Rattle.lists.specs.Bits.{field, above}
 use Rattle.lists.specs.Every.{some_below}
 use Rattle.lists.specs.Entries.{some}
 use Rattle.lists.specs.Total.{total}
 use Rattle.power.specs.Power.{tenths, over, fits}
-use Rattle.class.specs.Class.{budget_of, is_demand}
+use Rattle.class.specs.Class.{budget_of, is_demand, level_of, over_class}
 use Rattle.sample.specs.Sample.{sample_at, reserved_flags}
 use Rattle.control.specs.Control.{refused}
 use Rattle.status.specs.Status.{no_latches, status_word}
 use Rattle.port.specs.declared.form.State.{State}
 use Rattle.port.specs.declared.form.State.TheVariants.{Disabled, Idle, Detecting, Backoff, Classifying, PowerUp, PowerOn, ErrorDelay, TestMode, TestError}
 use Rattle.port.specs.States.{condition}
-use Rattle.replies.specs.Calls.{cold_table, cold_start, same_alternative, with_control, write_control, unlatched, status_at, read_status, level_of, over_class, demanding, over_supply, request}
+use Rattle.replies.specs.Calls.{cold_table, cold_start, same_alternative, with_control, write_control, unlatched, status_at, read_status, demanding, over_supply, request}
 use Rattle.table.specs.Drawn.{draws, closed_sum}
-use Rattle.table.specs.Parts.{zero_counts, port_at, with_port, done, refuse, tells, refuse_status, refuse_tick}
+use Rattle.table.specs.Parts.{zero_counts, port_at, with_port, refuse, tells}
 use Rattle.boards.specs.Masks.{answered}
 use Rattle.passes.specs.Tick.{tick, flags_reserved}
 use Rattle.table.specs.WellMade.{ill_port, ill_made, well_made}
-use Rattle.table.specs.declared.form.Answer.TheVariants.{Done}
-use Rattle.table.specs.declared.form.Status.TheVariants.{Word}
 use Rattle.table.specs.declared.form.Table.{Table}
 use Rattle.statements.specs.Statement1.{Outcome}
 use Rattle.statements.specs.TableRows.{port, table, tables}
@@ -34,7 +33,7 @@ unfolding tables well_made ill_made ill_port over some_below port_at refused fie
 tables_hold = refl
 
 pub calls_hold : map (λ (r : Question × Outcome). meaning r.0) calls ≡ map (λ (r : Question × Outcome). r.1) calls
-unfolding calls meaning cold_start cold_table done refuse write_control same_alternative with_control with_port request over_supply over_class demanding level_of budget_of closed_sum draws total fits ill_made ill_port over some_below port_at refused field above is_demand some read_status status_at tells refuse_status tick flags_reserved reserved_flags sample_at word_at refuse_tick answered
+unfolding calls meaning cold_start cold_table tells refuse write_control same_alternative with_control with_port request over_supply over_class demanding level_of budget_of closed_sum draws total fits ill_made ill_port over some_below port_at refused field above is_demand some read_status status_at tick flags_reserved reserved_flags sample_at word_at answered
 calls_hold = refl
 
 -- "value 1..38 means demand 40, ..64 means 70, ..129 means 154, ..255 means 300"
@@ -50,11 +49,11 @@ pub conditions_hold :
 unfolding status_word
 conditions_hold = refl
 
-pub status_clears : read_status (table 2 300 latched latched) 1 ≡ record { table = table 2 300 latched cleared; answer = Word 0x7FA5 }
+pub status_clears : read_status (table 2 300 latched latched) 1 ≡ record { table = table 2 300 latched cleared; answer = Ok 0x7FA5 }
 unfolding read_status status_at unlatched tells status_word with_port ill_made ill_port over some_below port_at refused field above is_demand some
 status_clears = refl
 
 -- "Accepted, it becomes the port's demand; nothing else changes."
-pub request_changes_its_demand : request (table 2 300 (port PowerOn 3 0x0005 40 zero_counts) latched) 0 129 ≡ record { table = table 2 300 (port PowerOn 3 0x0005 154 zero_counts) latched; answer = Done }
-unfolding request over_supply over_class demanding level_of budget_of closed_sum draws total fits done with_port ill_made ill_port over some_below port_at refused field above is_demand some
+pub request_changes_its_demand : request (table 2 300 (port PowerOn 3 0x0005 40 zero_counts) latched) 0 129 ≡ record { table = table 2 300 (port PowerOn 3 0x0005 154 zero_counts) latched; answer = Ok tt }
+unfolding request over_supply over_class demanding level_of budget_of closed_sum draws total fits tells with_port ill_made ill_port over some_below port_at refused field above is_demand some
 request_changes_its_demand = refl

@@ -1,16 +1,17 @@
 -- What is proved of specs/ClassFailures.
 -- Assumes nothing.
-use Prim.Native.Nat.{◌-◌}
+use Prim.Native.Nat.{ℕ, ◌-◌}
 use mathlib.Core.Path.{◌≡◌, refl, sym, ◌∙◌, ap, ap₂}
 use mathlib.Core.Bool.{Bool, true, false, cond, not, ◌&&◌, false≢true}
 use native.Mathlib.Omega.{arith}
 use lib.Dec.{eqb}
 use borrow.Author.Tests.{eqb-true}
+use Rattle.std.specs.Prelude.{Result, Ok, Err}
 use Rattle.power.specs.declared.Power.{Power}
 use Rattle.class.specs.Class.{class_of_two}
 use Rattle.statements.proofs.Currents.{is_over, is_apart, over_is, apart_is, used_is}
-use Rattle.class.specs.declared.Events.{Events}
-use Rattle.class.specs.declared.Events.TheVariants.{Is, OverCurrent, Disagree}
+use Rattle.class.specs.declared.Failure.{Failure}
+use Rattle.class.specs.declared.Failure.TheVariants.{OverCurrent, Disagree}
 use Rattle.sample.specs.Sample.{flags_of}
 use Rattle.sample.specs.declared.Sample.{Sample}
 use Rattle.control.specs.Control.{enable_of}
@@ -36,20 +37,20 @@ use Rattle.block.specs.Digest.{classing_of, digest}
 use Rattle.statements.specs.ClassFailures.{takes_class, ClassFailures}
 
 -- a latch that a failure of the class sets, and nothing else does
-record OfFailure (latch : Latches → Bool) (failed : Events → Bool) : Type 0 where
+record OfFailure (latch : Latches → Bool) (failed : Result ℕ Failure → Bool) : Type 0 where
   none : latch no_latches ≡ false
   valid : latch latch_valid ≡ false
   invalid : latch latch_invalid ≡ false
   short : latch latch_short ≡ false
   overload : latch latch_overload ≡ false
   absent : latch latch_absent ≡ false
-  taken : (e : Events) (q : Port) → latch (classed (classing_of e) q).latched ≡ failed e
+  taken : (e : Result ℕ Failure) (q : Port) → latch (classed (classing_of e) q).latched ≡ failed e
 
-module _ (latch : Latches → Bool) (failed : Events → Bool) (of : OfFailure latch failed) (claim : Power) (p : Port) (s : Sample) where
+module _ (latch : Latches → Bool) (failed : Result ℕ Failure → Bool) (of : OfFailure latch failed) (claim : Power) (p : Port) (s : Sample) where
   abbrev latched : Bool
   latched = latch (step claim p (digest s)).latched
 
-  abbrev shown : Events
+  abbrev shown : Result ℕ Failure
   shown = (class_of_two s.c1 s.c2).shown
 
   elsewhere : eqb (code_of p.state) 4 ≡ false → latched ≡ false
@@ -76,7 +77,7 @@ module _ (latch : Latches → Bool) (failed : Events → Bool) (of : OfFailure l
       })
 
   -- the rules of a port in CLASSIFYING, down to the reading
-  rules : (off forced ends done : Bool) (e : Events) (a b c q : Port)
+  rules : (off forced ends done : Bool) (e : Result ℕ Failure) (a b c q : Port)
       → latch (cond {A = Moved} off (quietly a) (cond (forced && true) (quietly b) (cond ends (quietly c) (classed (cond done (classing_of e) NotClassed) q)))).latched
       ≡ (((not off && not forced) && (not ends && done)) && failed e)
   unfolding classed
@@ -103,17 +104,17 @@ module _ (latch : Latches → Bool) (failed : Events → Bool) (of : OfFailure l
           ∙ simp (e, early (classifying_ticks - 1) p.counts.power_on (omega arith))
       go false e = elsewhere e ∙ simp e
 
-over_taken : (e : Events) (q : Port) → (classed (classing_of e) q).latched.over_current ≡ is_over e
+over_taken : (e : Result ℕ Failure) (q : Port) → (classed (classing_of e) q).latched.over_current ≡ is_over e
 unfolding classed
-over_taken (Is k) q = refl
-over_taken OverCurrent q = refl
-over_taken Disagree q = refl
+over_taken (Ok k) q = refl
+over_taken (Err OverCurrent) q = refl
+over_taken (Err Disagree) q = refl
 
-apart_taken : (e : Events) (q : Port) → (classed (classing_of e) q).latched.disagree ≡ is_apart e
+apart_taken : (e : Result ℕ Failure) (q : Port) → (classed (classing_of e) q).latched.disagree ≡ is_apart e
 unfolding classed
-apart_taken (Is k) q = refl
-apart_taken OverCurrent q = refl
-apart_taken Disagree q = refl
+apart_taken (Ok k) q = refl
+apart_taken (Err OverCurrent) q = refl
+apart_taken (Err Disagree) q = refl
 
 pub class_failures : ClassFailures
 class_failures =

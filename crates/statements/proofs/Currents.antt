@@ -7,19 +7,18 @@ use mathlib.Core.Logic.{⊎_elim}
 use native.Mathlib.Omega.{arith}
 use lib.Dec.{eqb, ltb, leb}
 use borrow.Author.Tests.{leb-false, lt-ltb, le-ltb, lt-leb}
+use Rattle.std.specs.Prelude.{Option, Some, None, Result, Ok, Err}
 use Rattle.lists.proofs.Places.{side}
 use Rattle.lists.proofs.Tests.{choice_on, not_leb}
 use Rattle.class.specs.Class.{class_of, is_four, alone, class_of_two}
-use Rattle.class.specs.declared.Class.{Class}
-use Rattle.class.specs.declared.Class.TheVariants.{Is, Failure}
 use Rattle.class.specs.declared.ClassReading.{ClassReading}
-use Rattle.class.specs.declared.Events.{Events}
-use Rattle.class.specs.declared.Events.TheVariants.{Is as Shows, OverCurrent, Disagree}
+use Rattle.class.specs.declared.Failure.{Failure}
+use Rattle.class.specs.declared.Failure.TheVariants.{OverCurrent, Disagree}
 
 -- ---- "to 31,000 class 3; to 45,000 class 4; above, failure"
 
-module _ (P : Class → Type 0) (i : ℕ) where
-  pub low_class : i ≤ 31000 → P (Is 0) → P (Is 1) → P (Is 2) → P (Is 3) → P (class_of i)
+module _ (P : Option ℕ → Type 0) (i : ℕ) where
+  pub low_class : i ≤ 31000 → P (Some 0) → P (Some 1) → P (Some 2) → P (Some 3) → P (class_of i)
   unfolding class_of
   low_class h p0 p1 p2 p3 =
       choice_on P (leb i 5000) _ _ (λ e. p0)
@@ -27,7 +26,7 @@ module _ (P : Class → Type 0) (i : ℕ) where
       (λ e. choice_on P (leb i 21000) _ _ (λ e. p2)
       (λ e. choice_on P (leb i 31000) _ _ (λ e. p3) (λ e. absurd (omega (arith, leb-false i 31000 e))))))
 
-pub high_class : (i : ℕ) → 31000 < i → class_of i ≡ cond (leb i 45000) (Is 4) Failure
+pub high_class : (i : ℕ) → 31000 < i → class_of i ≡ cond (leb i 45000) (Some 4) None
 unfolding class_of
 high_class i h = simp (lt-leb i 5000 (omega arith), lt-leb i 13000 (omega arith), lt-leb i 21000 (omega arith), lt-leb i 31000 h)
 
@@ -39,13 +38,13 @@ four_is i =
     (λ (h : i ≤ 31000). low_class (λ x. is_four x ≡ false) i h refl refl refl refl ∙ simp (le-ltb 31000 i h))
     (side 31000 i)
   where
-    bool : (x : Bool) → is_four (cond x (Is 4) Failure) ≡ x
+    bool : (x : Bool) → is_four (cond x (Some 4) None) ≡ x
     bool true = refl
     bool false = refl
 
-abbrev is_failure : Class → Bool
-is_failure (Is k) = false
-is_failure Failure = true
+abbrev is_failure : Option ℕ → Bool
+is_failure (Some k) = false
+is_failure None = true
 
 failure_is : (i : ℕ) → is_failure (class_of i) ≡ ltb 45000 i
 failure_is i =
@@ -54,50 +53,50 @@ failure_is i =
     (λ (h : i ≤ 31000). low_class (λ x. is_failure x ≡ false) i h refl refl refl refl ∙ simp (le-ltb 45000 i (omega arith)))
     (side 31000 i)
   where
-    bool : (x : Bool) → is_failure (cond x (Is 4) Failure) ≡ not x
+    bool : (x : Bool) → is_failure (cond x (Some 4) None) ≡ not x
     bool true = refl
     bool false = refl
 
 -- ---- two currents
 
 -- their reading, of whether each is class 4 and what the first shows by itself
-abbrev chosen : Bool → Bool → Events → ClassReading
-chosen t y e = cond t (record { shown = cond y (Shows 4) Disagree; used = 2 }) (record { shown = e; used = 1 })
+abbrev chosen : Bool → Bool → Result ℕ Failure → ClassReading
+chosen t y e = cond t (record { shown = cond y (Ok 4) (Err Disagree); used = 2 }) (record { shown = e; used = 1 })
 
-abbrev pub reading : Class → Bool → ClassReading
+abbrev pub reading : Option ℕ → Bool → ClassReading
 reading x y = chosen (is_four x) y (alone x)
 
-abbrev pub is_over : Events → Bool
-is_over (Shows k) = false
-is_over OverCurrent = true
-is_over Disagree = false
+abbrev pub is_over : Result ℕ Failure → Bool
+is_over (Ok k) = false
+is_over (Err OverCurrent) = true
+is_over (Err Disagree) = false
 
-abbrev pub is_apart : Events → Bool
-is_apart (Shows k) = false
-is_apart OverCurrent = false
-is_apart Disagree = true
+abbrev pub is_apart : Result ℕ Failure → Bool
+is_apart (Ok k) = false
+is_apart (Err OverCurrent) = false
+is_apart (Err Disagree) = true
 
-over_reading : (x : Class) (y : Bool) → is_over (reading x y).shown ≡ is_failure x
+over_reading : (x : Option ℕ) (y : Bool) → is_over (reading x y).shown ≡ is_failure x
 unfolding is_four
-over_reading (Is k) y = bool (eqb k 4) y
+over_reading (Some k) y = bool (eqb k 4) y
   where
-    bool : (t y : Bool) → is_over (chosen t y (Shows k)).shown ≡ false
+    bool : (t y : Bool) → is_over (chosen t y (Ok k)).shown ≡ false
     bool true true = refl
     bool true false = refl
     bool false y = refl
-over_reading Failure y = refl
+over_reading None y = refl
 
-apart_reading : (x : Class) (y : Bool) → is_apart (reading x y).shown ≡ (is_four x && not y)
+apart_reading : (x : Option ℕ) (y : Bool) → is_apart (reading x y).shown ≡ (is_four x && not y)
 unfolding is_four
-apart_reading (Is k) y = bool (eqb k 4) y
+apart_reading (Some k) y = bool (eqb k 4) y
   where
-    bool : (t y : Bool) → is_apart (chosen t y (Shows k)).shown ≡ (t && not y)
+    bool : (t y : Bool) → is_apart (chosen t y (Ok k)).shown ≡ (t && not y)
     bool true true = refl
     bool true false = refl
     bool false y = refl
-apart_reading Failure y = refl
+apart_reading None y = refl
 
-used_reading : (t y : Bool) (e : Events) → (chosen t y e).used ≡ cond t 2 1
+used_reading : (t y : Bool) (e : Result ℕ Failure) → (chosen t y e).used ≡ cond t 2 1
 used_reading true y e = refl
 used_reading false y e = refl
 

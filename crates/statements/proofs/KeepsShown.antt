@@ -5,6 +5,7 @@ use Prim.Native.Nat.{ℕ}
 use mathlib.Core.Path.{◌≡◌, refl, sym, subst}
 use mathlib.Core.Bool.{Bool, true, false, cond, ◌&&◌, false≢true}
 use lib.Dec.{leb}
+use Rattle.std.specs.Prelude.{Result, Ok, Err}
 use Rattle.lists.specs.Bits.{bit}
 use Rattle.lists.proofs.Tests.{choice}
 use Rattle.power.specs.Power.{forced}
@@ -12,8 +13,8 @@ use Rattle.power.specs.declared.Power.{Power}
 use Rattle.class.specs.Class.{class_of_two}
 use Rattle.sample.specs.Sample.{flags_of}
 use Rattle.signature.specs.Signature.{signature_of}
-use Rattle.class.specs.declared.Events.{Events}
-use Rattle.class.specs.declared.Events.TheVariants.{Is as ClassIs, OverCurrent, Disagree}
+use Rattle.class.specs.declared.Failure.{Failure}
+use Rattle.class.specs.declared.Failure.TheVariants.{OverCurrent, Disagree}
 use Rattle.sample.specs.declared.Sample.{Sample}
 use Rattle.signature.specs.declared.Signature.{Signature}
 use Rattle.signature.specs.declared.Signature.TheVariants.{Valid as SigValid, Invalid as SigInvalid, Open as SigOpen}
@@ -143,10 +144,10 @@ module _ (s : Sample) where
   unfolding digest gives_class
   class_given k d = go (flags_of s.flags).class_done (class_of_two s.c1 s.c2).shown
     where
-      go : (b : Bool) (g : Events) → cond b (classing_of g) NotClassed ≡ Classed k d → (b && is_class g) ≡ true
-      go true (ClassIs j) e = refl
-      go true OverCurrent e = let z : false ≡ true = cc in z
-      go true Disagree e = let z : false ≡ true = cc in z
+      go : (b : Bool) (g : Result ℕ Failure) → cond b (classing_of g) NotClassed ≡ Classed k d → (b && is_class g) ≡ true
+      go true (Ok j) e = refl
+      go true (Err OverCurrent) e = let z : false ≡ true = cc in z
+      go true (Err Disagree) e = let z : false ≡ true = cc in z
       go false g e = let z : false ≡ true = cc in z
 
   -- a move that leaves a port as it may stand, and asks only if it may

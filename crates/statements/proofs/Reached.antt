@@ -8,20 +8,23 @@ use mathlib.Core.Logic.{◌⊎◌, inl, inr, ⊎_elim}
 use native.Mathlib.Omega.{arith}
 use lib.ListN.{get_or, set, get_or-replicate}
 use borrow.Author.Tests.{leb-false, ltb-false, le-leb, le-ltb, ne_eqb}
+use Rattle.std.specs.Prelude.{Result}
 use Rattle.sizes.specs.Sizes.{most_ports, sample_bytes}
+use Rattle.sizes.specs.declared.refusals.Refusal.{Refusal}
 use Rattle.lists.proofs.Ladder.{ladder_holds}
 use Rattle.lists.proofs.Tests.{choice_on}
 use Rattle.power.specs.Power.{forced, tenths, highest_supply, at_most}
 use Rattle.class.proofs.Laws.{budget_is_demand}
+use Rattle.class.specs.Class.{level_of}
 use Rattle.sample.specs.Sample.{sample_at}
 use Rattle.settling.specs.Settle.{settled}
 use Rattle.diagram.specs.Step.{step}
 use Rattle.port.specs.declared.form.Port.{Port}
 use Rattle.port.specs.declared.form.State.{State}
 use Rattle.port.specs.States.{is_idle}
-use Rattle.replies.specs.Calls.{cold_port, cold_table, cold_start, with_control, control_refusals, write_control, unlatched, status_refusals, status_at, read_status, level_of, demanding, request_refusals, request}
+use Rattle.replies.specs.Calls.{cold_port, cold_table, cold_start, with_control, control_refusals, write_control, unlatched, status_refusals, status_at, read_status, demanding, request_refusals, request}
 use Rattle.block.specs.Digest.{digest}
-use Rattle.table.specs.Parts.{no_port, port_at, with_port, done, refuse, tells, refuse_status, refuse_tick}
+use Rattle.table.specs.Parts.{Told, no_port, port_at, with_port, refuse, tells}
 use Rattle.statements.proofs.StaysWellMade.{tick_well, controlled_well, unlatched_well, demanding_well, cold_well}
 use Rattle.table.proofs.Laws.{well_count}
 use Rattle.boards.proofs.Laws.{count_after, port_here}
@@ -30,9 +33,7 @@ use Rattle.boards.specs.Masks.{answered}
 use Rattle.passes.specs.Tick.{moved_at, tick_refusals, tick}
 use Rattle.table.specs.WellMade.{well_made}
 use Rattle.table.specs.declared.form.Table.{Table}
-use Rattle.table.specs.declared.form.StatusRead.{StatusRead}
-use Rattle.table.specs.declared.form.Ticked.{Ticked}
-use Rattle.table.specs.declared.form.Replied.{Replied}
+use Rattle.table.specs.declared.form.Closed.{Closed}
 use Rattle.statements.specs.History.{Call, control, status, requested as asked, ticked, after, reached, accepted, Shown, nothing, seen, adds, shown}
 use Rattle.statements.proofs.KeepsShown.{Needs, idle_needs, tick_needs, tick_needs_idle}
 
@@ -58,25 +59,25 @@ unfolding with_port port_at
 changed p q t e w = record { count = refl; well = w; states = part_kept (λ (x : Port). x.state) t.ports p q no_port e }
 
 control_keeps : (t : Table) (p w : ℕ) → Keeps t (write_control t p w).table
-unfolding write_control refuse done with_control
+unfolding write_control refuse tells with_control
 control_keeps t p w =
-    ladder_holds (λ (r : Replied). Keeps t r.table) (λ k. refuse k t) _ (control_refusals t p w) (λ k. same t)
+    ladder_holds (λ (r : Told (Result Unit Refusal)). Keeps t r.table) (λ k. refuse k t) _ (control_refusals t p w) (λ k. same t)
     (λ c. changed p (with_control w (port_at t p)) t refl (λ v. controlled_well p w t v (leb-false t.count p c.1.0) c.1.1.0))
 
 status_keeps : (t : Table) (p : ℕ) → Keeps t (read_status t p).table
-unfolding read_status status_at refuse_status tells unlatched
+unfolding read_status status_at refuse tells unlatched
 status_keeps t p =
-    ladder_holds (λ (r : StatusRead). Keeps t r.table) (λ k. refuse_status k t) _ (status_refusals t p) (λ k. same t)
+    ladder_holds (λ (r : Told (Result ℕ Refusal)). Keeps t r.table) (λ k. refuse k t) _ (status_refusals t p) (λ k. same t)
     (λ c. changed p (unlatched (port_at t p)) t refl (λ v. unlatched_well p t v (leb-false t.count p c.1.0)))
 
 request_keeps : (t : Table) (p v : ℕ) → Keeps t (request t p v).table
-unfolding request refuse done demanding level_of
+unfolding request refuse tells demanding level_of
 request_keeps t p v =
-    ladder_holds (λ (r : Replied). Keeps t r.table) (λ k. refuse k t) _ (request_refusals t p v) (λ k. same t)
+    ladder_holds (λ (r : Told (Result Unit Refusal)). Keeps t r.table) (λ k. refuse k t) _ (request_refusals t p v) (λ k. same t)
     (λ c. changed p (demanding (level_of v) (port_at t p)) t refl (λ w. demanding_well (level_of v) p t w (leb-false t.count p c.1.0) (budget_is_demand _)))
 
 -- an accepted tick: its table is the tick's, its figure is in range, and it came from a well-made table
-pub record Ran (t : Table) (block : List ℕ) (figure : ℕ) (r : Ticked) : Type 0 where
+pub record Ran (t : Table) (block : List ℕ) (figure : ℕ) (r : Told (Result Closed Refusal)) : Type 0 where
   pub answer : accepted r.answer ≡ true
   pub whole : r ≡ answered (table_after t (moved_at t block) (tenths figure))
   pub table : r.table ≡ table_after t (moved_at t block) (tenths figure)
@@ -84,19 +85,19 @@ pub record Ran (t : Table) (block : List ℕ) (figure : ℕ) (r : Ticked) : Type
   pub figure_in_range : figure ≤ 60000
 
 -- a refused one: its table is as it came
-pub record Stopped (t : Table) (r : Ticked) : Type 0 where
+pub record Stopped (t : Table) (r : Told (Result Closed Refusal)) : Type 0 where
   pub answer : accepted r.answer ≡ false
   pub table : r.table ≡ t
 
-stopped : (k : ℕ) (t : Table) → Stopped t (refuse_tick k t)
-unfolding refuse_tick
+stopped : (k : ℕ) (t : Table) → Stopped t (refuse k t)
+unfolding refuse
 stopped k t = record { answer = refl; table = refl }
 
 -- a tick runs or is stopped
 pub tick_told_lem : (t : Table) (block : List ℕ) (figure : ℕ) → Stopped t (tick t block figure) ⊎ Ran t block figure (tick t block figure)
-unfolding tick answered well_made
+unfolding tick answered tells well_made
 tick_told_lem t block figure =
-    ladder_holds (λ (r : Ticked). Stopped t r ⊎ Ran t block figure r) (λ k. refuse_tick k t) _ (tick_refusals t block figure)
+    ladder_holds (λ (r : Told (Result Closed Refusal)). Stopped t r ⊎ Ran t block figure r) (λ k. refuse k t) _ (tick_refusals t block figure)
     (λ k. inl (stopped k t))
     (λ c. inr (record { answer = refl; whole = refl; table = refl; well = simp c.0; figure_in_range = ltb-false 60000 figure c.1.1.0 }))
 
@@ -117,7 +118,7 @@ call_well t (ticked block figure) e =
     (tick_told_lem t block figure)
 
 pub cold_table_lem : (n : ℕ) → 1 ≤ n → n ≤ most_ports → (cold_start n).table ≡ cold_table n
-unfolding cold_start done
+unfolding cold_start tells
 cold_table_lem n a b = simp (ne_eqb n 0 (λ e. omega arith), le-ltb most_ports n b)
 
 -- every table that a history reaches is well-made

@@ -7,7 +7,9 @@ use mathlib.Core.List.{List}
 use mathlib.Core.Logic.{⊎_elim}
 use native.Mathlib.Omega.{arith}
 use borrow.Author.Tests.{lt-leb, le-leb}
+use Rattle.std.specs.Prelude.{Result, Ok}
 use Rattle.sizes.specs.Sizes.{most_ports, sample_bytes}
+use Rattle.sizes.specs.declared.refusals.Refusal.{Refusal}
 use Rattle.power.specs.Power.{tenths, forced}
 use Rattle.sample.specs.Sample.{sample_at}
 use Rattle.port.specs.States.{in_test}
@@ -22,7 +24,7 @@ use Rattle.share.specs.Walk.{walked, is_in}
 use Rattle.share.proofs.WalkLaws.{walk_keeps}
 use Rattle.outcomes.proofs.Latched.{latches_told}
 use Rattle.block.specs.Digest.{digest}
-use Rattle.table.specs.Parts.{port_at}
+use Rattle.table.specs.Parts.{Told, port_at}
 use Rattle.boards.proofs.MaskLaws.{bits_a, bits_b, past_a, past_b, closed_number_lem}
 use Rattle.statements.proofs.StaysWellMade.{tick_well}
 use Rattle.table.proofs.Laws.{well_count}
@@ -31,9 +33,8 @@ use Rattle.boards.specs.Sharing.{rank_at, claim_at, kept_at, settled_at, table_a
 use Rattle.boards.specs.Masks.{mask_a, mask_b, answered}
 use Rattle.passes.specs.Tick.{moved_at, tick}
 use Rattle.table.specs.WellMade.{well_made}
-use Rattle.table.specs.declared.form.Closed.TheVariants.{Ports}
+use Rattle.table.specs.declared.form.Closed.{Closed}
 use Rattle.table.specs.declared.form.Table.{Table}
-use Rattle.table.specs.declared.form.Ticked.{Ticked}
 use Rattle.tlv.proofs.ReadRewrites.{read_rewrites}
 use Rattle.tlv.proofs.WrittenReads.{written_reads}
 use Rattle.tlv.proofs.Boundary.{found_power, taken_power}
@@ -130,7 +131,7 @@ ran_ticks t block figure m f =
       past = port_past t x (tenths figure);
       same_count = count_after t x (tenths figure);
       stored = supply_after t x (tenths figure);
-      answers = ap (Ports (mask_a u) (mask_b u)) (closed_number_lem u w);
+      answers = ap (λ (n : ℕ). Ok (record { a = mask_a u; b = mask_b u; number = n })) (closed_number_lem u w);
       bit_a = bits_a u;
       bit_b = bits_b u;
       no_bit_a = past_a u;
@@ -142,7 +143,7 @@ ticks_so t block figure e =
     ⊎_elim
     (λ (x : Stopped t (tick t block figure)). absurd (false≢true (sym x.answer ∙ e)))
     (λ (x : Ran t block figure (tick t block figure)).
-    subst (λ (r : Ticked). Ticks t block figure r.table r.answer) (sym x.whole) (answered_ticks x.well x.figure_in_range))
+    subst (λ (r : Told (Result Closed Refusal)). Ticks t block figure r.table r.answer) (sym x.whole) (answered_ticks x.well x.figure_in_range))
     (tick_told_lem t block figure)
   where
     answered_ticks : well_made t ≡ true → figure ≤ 60000 → Ticks t block figure (answered (table_after t (moved_at t block) (tenths figure))).table (answered (table_after t (moved_at t block) (tenths figure))).answer

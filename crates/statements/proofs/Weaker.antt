@@ -25,7 +25,7 @@ use Rattle.share.specs.Share.{claims, before, met, sum_where, down, keeps}
 use Rattle.replies.specs.Calls.{cold_table, cold_start, same_alternative, write_control, with_control}
 use Rattle.table.specs.Drawn.{draws, closed_sum, closed_at}
 use Rattle.block.specs.Digest.{digest}
-use Rattle.table.specs.Parts.{port_at, with_port, done}
+use Rattle.table.specs.Parts.{port_at, with_port, tells}
 use Rattle.boards.specs.Sharing.{rank_at, claim_at, kept_at, settled_at, port_after, table_after}
 use Rattle.boards.specs.Masks.{answered}
 use Rattle.passes.specs.Tick.{moved_at, tick, flags_reserved}
@@ -35,7 +35,7 @@ use Rattle.statements.specs.History.{Call, after, reached, shows_signature, give
 use Rattle.statements.specs.Weaker.{quiet, signs, gives, signed, under, Facts}
 
 pub facts : Facts
-unfolding quiet signs gives signed reached after shown adds seen shows_signature gives_class cold_start cold_table done write_control same_alternative with_control with_port ill_made ill_port over some_below port_at refused field above is_demand some flags_reserved reserved_flags sample_at word_at tick answered table_after tabulate port_after settled_at digest flags_of bit signature_of outside by_differences class_of_two is_four class_of budget_of step by_state enable_of pair_of up idle detected detecting classifying classed rank_at moved_at rank priority_of kept_at claim_at keeps claims down sum_where total met before settled granted enter shed closed_sum draws closed_at
+unfolding quiet signs gives signed reached after shown adds seen shows_signature gives_class cold_start cold_table tells write_control same_alternative with_control with_port ill_made ill_port over some_below port_at refused field above is_demand some flags_reserved reserved_flags sample_at word_at tick answered table_after tabulate port_after settled_at digest flags_of bit signature_of outside by_differences class_of_two is_four class_of budget_of step by_state enable_of pair_of up idle detected detecting classifying classed rank_at moved_at rank priority_of kept_at claim_at keeps claims down sum_where total met before settled granted enter shed closed_sum draws closed_at
 facts = record { waits = refl; closes = refl; shows_both = refl; adds_up = refl; remembers = refl; opens = refl; forgets = refl; too_early = refl }
 
 -- the masks compared the other way round: false of our core

@@ -12,7 +12,7 @@ use Rattle.table.specs.Parts.{zero_counts}
 use Rattle.passes.specs.Tick.{tick}
 use Rattle.table.specs.declared.form.Table.{Table}
 use Rattle.statements.specs.MoveWords.{counts}
-use Rattle.statements.specs.Statement1.{Outcome, value, number, told, status_told, tick_told}
+use Rattle.statements.specs.Statement1.{Outcome, value, number, told}
 use Rattle.statements.specs.TableRows.{port, table}
 
 pub data Question : Type 0 where
@@ -26,8 +26,8 @@ unfoldable pub meaning : Question → Outcome
 meaning (cold n) = told (cold_start n).answer
 meaning (control t p w) = told (write_control t p w).answer
 meaning (asks t p v) = told (request t p v).answer
-meaning (reads t p) = status_told (read_status t p).answer
-meaning (ticks t block figure) = tick_told (tick t block figure).answer
+meaning (reads t p) = told (read_status t p).answer
+meaning (ticks t block figure) = told (tick t block figure).answer
 
 -- two samples without a flag; two of which the second has a reserved flag; one byte too few
 abbrev pub samples : ℕ → List ℕ

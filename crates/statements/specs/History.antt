@@ -1,12 +1,12 @@
 -- Histories of calls from a cold start, the table that they reach, and what each port showed on the way.
 -- Assumes nothing.
-use Rattle.std.specs.Prelude.{ℕ, ◌*◌, Bool, true, false, cond, ◌&&◌, List, [], ◌∷◌}
+use Rattle.std.specs.Prelude.{ℕ, ◌*◌, Bool, true, false, cond, ◌&&◌, List, [], ◌∷◌, Result, Ok, Err}
 use Rattle.sizes.specs.Sizes.{sample_bytes}
+use Rattle.sizes.specs.declared.refusals.Refusal.{Refusal}
 use Rattle.class.specs.Class.{class_of_two}
 use Rattle.sample.specs.Sample.{sample_at, flags_of}
 use Rattle.signature.specs.Signature.{signature_of}
-use Rattle.class.specs.declared.Events.{Events}
-use Rattle.class.specs.declared.Events.TheVariants.{Is, OverCurrent, Disagree}
+use Rattle.class.specs.declared.Failure.{Failure}
 use Rattle.sample.specs.declared.Sample.{Sample}
 use Rattle.signature.specs.declared.Signature.{Signature}
 use Rattle.signature.specs.declared.Signature.TheVariants.{Valid, Invalid, Open}
@@ -14,8 +14,6 @@ use Rattle.port.specs.States.{is_idle}
 use Rattle.replies.specs.Calls.{cold_start, write_control, read_status, request}
 use Rattle.table.specs.Parts.{port_at}
 use Rattle.passes.specs.Tick.{tick}
-use Rattle.table.specs.declared.form.Closed.{Closed}
-use Rattle.table.specs.declared.form.Closed.TheVariants.{Ports, Refused}
 use Rattle.table.specs.declared.form.Table.{Table}
 
 -- a call, with what is handed in: any number and any bytes
@@ -37,19 +35,18 @@ unfoldable pub reached : ℕ → List Call → Table
 reached n [] = (cold_start n).table
 reached n (c ∷ h) = after (reached n h) c
 
-abbrev pub accepted : Closed → Bool
-accepted (Ports a b k) = true
-accepted (Refused k) = false
+abbrev pub accepted : {A : Type 0} → Result A Refusal → Bool
+accepted (Ok x) = true
+accepted (Err refusal) = false
 
 abbrev pub is_valid : Signature → Bool
 is_valid Valid = true
 is_valid Invalid = false
 is_valid Open = false
 
-abbrev pub is_class : Events → Bool
-is_class (Is k) = true
-is_class OverCurrent = false
-is_class Disagree = false
+abbrev pub is_class : Result ℕ Failure → Bool
+is_class (Ok k) = true
+is_class (Err failure) = false
 
 -- a sample shows a valid signature: detection is done and its numbers read valid
 unfoldable pub shows_signature : Sample → Bool

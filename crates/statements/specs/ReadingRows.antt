@@ -1,9 +1,8 @@
 -- Rows at the limits of the readings: signatures, powers and samples. Proved in proofs/Limits.
 -- Assumes nothing.
-use Rattle.std.specs.Prelude.{true, false, List, [], ◌∷◌}
+use Rattle.std.specs.Prelude.{true, false, List, [], ◌∷◌, Some, None, Ok}
+use Rattle.sizes.specs.Refused.{refused}
 use Rattle.power.specs.Power.{tenths}
-use Rattle.power.specs.declared.Supply.TheVariants.{Is as Supply-Is, TooLarge}
-use Rattle.sample.specs.declared.Sampled.TheVariants.{Is as Whole, Cut}
 use Rattle.signature.specs.declared.Signature.TheVariants.{Valid, Invalid, Open}
 use Rattle.statements.specs.Rows.{Row, signature, voltage, budget_of_row, demand, sample, flags_of_row, flags_reserved_row, supply, forced_claim_row, shows, power, sampled, flags, figure, test}
 
@@ -61,10 +60,10 @@ powers =
     ∷ (demand 301, test false)
     ∷ (demand 65535, test false)
     ∷ (forced_claim_row, power (tenths 154))
-    ∷ (supply 0, figure (Supply-Is (tenths 0)))
-    ∷ (supply 60000, figure (Supply-Is (tenths 60000)))
-    ∷ (supply 60001, figure TooLarge)
-    ∷ (supply 18446744073709551615, figure TooLarge)
+    ∷ (supply 0, figure (Ok (tenths 0)))
+    ∷ (supply 60000, figure (Ok (tenths 60000)))
+    ∷ (supply 60001, figure (refused 4))
+    ∷ (supply 18446744073709551615, figure (refused 4))
     ∷ []
 
 -- each flag and each reserved bit of the flags; the fourteen bytes of a sample
@@ -90,9 +89,9 @@ samples =
     ∷ (flags_reserved_row 8192, test true)
     ∷ (flags_reserved_row 16384, test true)
     ∷ (flags_reserved_row 32768, test true)
-    ∷ (sample (1 ∷ 2 ∷ 3 ∷ 4 ∷ 5 ∷ 6 ∷ 7 ∷ 8 ∷ 9 ∷ 10 ∷ 11 ∷ 12 ∷ 13 ∷ 14 ∷ []) 0, sampled (Whole (record { v1 = 258; v2 = 772; i1 = 1286; i2 = 1800; c1 = 2314; c2 = 2828; flags = 3342 })))
-    ∷ (sample (1 ∷ 2 ∷ 3 ∷ 4 ∷ 5 ∷ 6 ∷ 7 ∷ 8 ∷ 9 ∷ 10 ∷ 11 ∷ 12 ∷ 13 ∷ 14 ∷ []) 1, sampled Cut)
-    ∷ (sample (1 ∷ 2 ∷ 3 ∷ 4 ∷ 5 ∷ 6 ∷ 7 ∷ 8 ∷ 9 ∷ 10 ∷ 11 ∷ 12 ∷ 13 ∷ []) 0, sampled Cut)
-    ∷ (sample (1 ∷ 2 ∷ 3 ∷ 4 ∷ 5 ∷ 6 ∷ 7 ∷ 8 ∷ 9 ∷ 10 ∷ 11 ∷ 12 ∷ 13 ∷ 14 ∷ 255 ∷ 254 ∷ 128 ∷ 0 ∷ 0 ∷ 128 ∷ 18 ∷ 52 ∷ 171 ∷ 205 ∷ 0 ∷ 1 ∷ 0 ∷ 63 ∷ []) 1, sampled (Whole (record { v1 = 65534; v2 = 32768; i1 = 128; i2 = 4660; c1 = 43981; c2 = 1; flags = 63 })))
-    ∷ (sample [] 0, sampled Cut)
+    ∷ (sample (1 ∷ 2 ∷ 3 ∷ 4 ∷ 5 ∷ 6 ∷ 7 ∷ 8 ∷ 9 ∷ 10 ∷ 11 ∷ 12 ∷ 13 ∷ 14 ∷ []) 0, sampled (Some (record { v1 = 258; v2 = 772; i1 = 1286; i2 = 1800; c1 = 2314; c2 = 2828; flags = 3342 })))
+    ∷ (sample (1 ∷ 2 ∷ 3 ∷ 4 ∷ 5 ∷ 6 ∷ 7 ∷ 8 ∷ 9 ∷ 10 ∷ 11 ∷ 12 ∷ 13 ∷ 14 ∷ []) 1, sampled None)
+    ∷ (sample (1 ∷ 2 ∷ 3 ∷ 4 ∷ 5 ∷ 6 ∷ 7 ∷ 8 ∷ 9 ∷ 10 ∷ 11 ∷ 12 ∷ 13 ∷ []) 0, sampled None)
+    ∷ (sample (1 ∷ 2 ∷ 3 ∷ 4 ∷ 5 ∷ 6 ∷ 7 ∷ 8 ∷ 9 ∷ 10 ∷ 11 ∷ 12 ∷ 13 ∷ 14 ∷ 255 ∷ 254 ∷ 128 ∷ 0 ∷ 0 ∷ 128 ∷ 18 ∷ 52 ∷ 171 ∷ 205 ∷ 0 ∷ 1 ∷ 0 ∷ 63 ∷ []) 1, sampled (Some (record { v1 = 65534; v2 = 32768; i1 = 128; i2 = 4660; c1 = 43981; c2 = 1; flags = 63 })))
+    ∷ (sample [] 0, sampled None)
     ∷ []

@@ -1,20 +1,19 @@
 -- Questions that a row of a table asks of the definitions, and the answers that they give.
 -- Assumes nothing.
-use Rattle.std.specs.Prelude.{ℕ, ◌+◌, Bool, ◌≡◌, List, map}
+use Rattle.std.specs.Prelude.{ℕ, ◌+◌, Bool, ◌≡◌, List, map, Option, Result}
+use Rattle.sizes.specs.declared.refusals.Refusal.{Refusal}
 use Rattle.power.specs.Power.{forced, supply_of, tenths}
 use Rattle.power.specs.declared.Power.{Power}
-use Rattle.power.specs.declared.Supply.{Supply}
 use Rattle.class.specs.Class.{class_of, class_of_two, budget_of, is_demand}
 use Rattle.sample.specs.Sample.{sample_of, flags_of, reserved_flags}
 use Rattle.signature.specs.Signature.{outside, signature_of}
-use Rattle.class.specs.declared.Class.{Class}
 use Rattle.class.specs.declared.ClassReading.{ClassReading}
-use Rattle.sample.specs.declared.Sampled.{Sampled}
+use Rattle.sample.specs.declared.Sample.{Sample}
 use Rattle.sample.specs.declared.Flags.{Flags}
 use Rattle.signature.specs.declared.Signature.{Signature}
 use Rattle.share.specs.Cases.{three_kept}
 use Rattle.search.specs.Search.{search_of}
-use Rattle.search.specs.declared.Searched.{Searched}
+use Rattle.search.specs.declared.Found.{Found}
 use Rattle.control.specs.Control.{control_of, refused}
 use Rattle.status.specs.Status.{status_word}
 use Rattle.control.specs.declared.Control.{Control}
@@ -52,15 +51,15 @@ pub data Question : Type 0 where
 
 pub data Answer : Type 0 where
   shows : Signature → Answer
-  is_class_row : Class → Answer
+  is_class_row : Option ℕ → Answer
   reads : ClassReading → Answer
   power : Power → Answer
-  sampled : Sampled → Answer
+  sampled : Option Sample → Answer
   flags : Flags → Answer
   control : Control → Answer
-  figure : Supply → Answer
+  figure : Result Power Refusal → Answer
   stay : List Bool → Answer
-  searched : Searched → Answer
+  searched : Result Found Refusal → Answer
   word : ℕ → Answer
   test : Bool → Answer
 

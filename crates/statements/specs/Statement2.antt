@@ -2,8 +2,9 @@
 -- rule by which the supply is shared. Power TLVs of IEEE 802.3 are read as the standard lays them out, and what is written reads back as
 -- the same fields."
 -- Assumes nothing.
-use Rattle.std.specs.Prelude.{ℕ, ◌+◌, ◌*◌, ◌≤◌, ◌<◌, ◌≡◌, Bool, true, false, ◌&&◌, List}
+use Rattle.std.specs.Prelude.{ℕ, ◌+◌, ◌*◌, ◌≤◌, ◌<◌, ◌≡◌, Bool, true, false, ◌&&◌, List, Result, Ok}
 use Rattle.sizes.specs.Sizes.{most_ports, sample_bytes}
+use Rattle.sizes.specs.declared.refusals.Refusal.{Refusal}
 use Rattle.lists.specs.Bits.{bit}
 use Rattle.lists.specs.Count.{count}
 use Rattle.power.specs.Power.{tenths, forced}
@@ -26,7 +27,6 @@ use Rattle.boards.specs.Masks.{names_a, names_b, mask_a, mask_b}
 use Rattle.table.specs.Drawn.{closed_at}
 use Rattle.passes.specs.Tick.{moved_at, tick}
 use Rattle.table.specs.declared.form.Closed.{Closed}
-use Rattle.table.specs.declared.form.Closed.TheVariants.{Ports}
 use Rattle.table.specs.declared.form.Table.{Table}
 use Rattle.tlv.specs.Laws.{WrittenReads, ReadRewrites, FoundPower, TakenPower}
 use Rattle.statements.specs.History.{accepted}
@@ -36,7 +36,7 @@ abbrev pub moves : Table → List ℕ → ℕ → Moved
 moves t block p = step forced (port_at t p) (digest (sample_at block (sample_bytes * p)))
 
 -- what an accepted tick makes of a table
-pub record Ticks (t : Table) (block : List ℕ) (figure : ℕ) (after : Table) (answer : Closed) : Type 0 where
+pub record Ticks (t : Table) (block : List ℕ) (figure : ℕ) (after : Table) (answer : Result Closed Refusal) : Type 0 where
   -- each port below the count moves by the diagram on its own sample, and settles by whether its claim is kept
   pub moved : (p : ℕ) → p < t.count → port_at after p ≡ (settled (rank_at t (moved_at t block) p) (kept_at t (moved_at t block) (tenths figure) p) (moves t block p)).port
   -- its claim ranks by age, priority and number, and is kept while the sum of the demands down the ranking is at most the figure
@@ -62,7 +62,7 @@ pub record Ticks (t : Table) (block : List ℕ) (figure : ℕ) (after : Table) (
   -- "The figure is then stored."
   pub stored : after.supply ≡ tenths figure
   -- "bit p set exactly if port p is closed and its control word names that alternative", and the number is that of the closed ports
-  pub answers : answer ≡ Ports (mask_a after) (mask_b after) (count most_ports (closed_at after))
+  pub answers : answer ≡ Ok (record { a = mask_a after; b = mask_b after; number = count most_ports (closed_at after) })
   pub bit_a : (p : ℕ) → p < most_ports → bit p (mask_a after) ≡ (closed_at after p && names_a (pair_of (port_at after p).control))
   pub bit_b : (p : ℕ) → p < most_ports → bit p (mask_b after) ≡ (closed_at after p && names_b (pair_of (port_at after p).control))
   -- no bit stands past the table's places
