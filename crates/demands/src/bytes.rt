@@ -1,32 +1,25 @@
-// Numbers of four and eight bytes, big-endian: 0 where there are fewer.
-ghost use Rattle.std.specs.Prelude.{◌<◌, ◌^◌};
+// Numbers that bytes are, big-endian: 0 where there are fewer.
 
-use marks::bytes::word_at;
-
-// Four bytes.
-pub fn long_at(bytes: &[u8], at: usize) -> usize
-    ensures { result < 2 ^ 32 }
-{
-    if bytes.len() <= at {
-        return 0;
+// So many bytes at a place, or as many zeros.
+fn part<const N: usize>(bytes: &[u8], at: usize) -> [u8; N] {
+    match bytes.get(at..) {
+        Some(rest) => rest.first_chunk().copied().unwrap_or([0; N]),
+        None => [0; N],
     }
-    if bytes.len() - at < 4 {
-        return 0;
-    }
-    (word_at(bytes, at) * 65_536 + word_at(bytes, at + 2)) as usize
 }
 
-// Eight bytes.
+pub fn byte_at(bytes: &[u8], at: usize) -> u8 {
+    bytes.get(at).copied().unwrap_or(0)
+}
+
+pub fn word_at(bytes: &[u8], at: usize) -> u16 {
+    u16::from_be_bytes(part(bytes, at))
+}
+
+pub fn long_at(bytes: &[u8], at: usize) -> u32 {
+    u32::from_be_bytes(part(bytes, at))
+}
+
 pub fn number_at(bytes: &[u8], at: usize) -> u64 {
-    if bytes.len() <= at {
-        return 0;
-    }
-    if bytes.len() - at < 8 {
-        return 0;
-    }
-    long_at(bytes, at) as u64 * 4_294_967_296 + long_at(bytes, at + 4) as u64
-}
-
-pub fn first_byte(bytes: &[u8], at: usize) -> u8 {
-    if at < bytes.len() { bytes[at] } else { 0 }
+    u64::from_be_bytes(part(bytes, at))
 }

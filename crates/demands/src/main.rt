@@ -4,19 +4,21 @@
 #![tactic(auto)]
 
 mod bytes;
-mod calls_on;
+mod lent;
 mod records;
 
-ghost use Rattle.std.specs.Prelude.{◌≡◌, true, length};
+ghost use Rattle.std.specs.Prelude.{◌≡◌, true};
 ghost use Rattle.demands.specs.Unbroken.{unbroken, fair};
 
 use crate::bytes::long_at;
-use crate::records::{Outcome, judged};
+use crate::lent::Cells;
+use crate::records::judged;
 use verdict::Verdict;
 
 // Records that are judged: every loop has to end, and no input comes near so many.
 const BUDGET: u64 = 1_099_511_627_776;
 
+// How many records came to each verdict.
 #[derive(Drop)]
 struct Counts {
     held: u64,
@@ -24,24 +26,23 @@ struct Counts {
     broken: u64,
 }
 
-fn more(n: u64) -> u64 {
-    if n < BUDGET { n + 1 } else { n }
-}
+impl Counts {
+    fn add(&mut self, verdict: Verdict) {
+        match verdict {
+            Verdict::Held => self.held = self.held.saturating_add(1),
+            Verdict::NotAsked => self.not_asked = self.not_asked.saturating_add(1),
+            Verdict::Broken => self.broken = self.broken.saturating_add(1),
+        }
+    }
 
-fn counted(counts: Counts, verdict: Verdict) -> Counts {
-    match verdict {
-        Verdict::Held => Counts {
-            held: more(counts.held),
-            ..counts
-        },
-        Verdict::NotAsked => Counts {
-            not_asked: more(counts.not_asked),
-            ..counts
-        },
-        Verdict::Broken => Counts {
-            broken: more(counts.broken),
-            ..counts
-        },
+    fn print(&self) {
+        io::write_all(1, b"\nheld ");
+        io::print_decimal(1, self.held);
+        io::write_all(1, b" not asked ");
+        io::print_decimal(1, self.not_asked);
+        io::write_all(1, b" broken ");
+        io::print_decimal(1, self.broken);
+        io::write_all(1, b"\n");
     }
 }
 
@@ -49,89 +50,52 @@ fn counted(counts: Counts, verdict: Verdict) -> Counts {
 fn told(verdict: Verdict)
     requires { unbroken verdict ≡ true }
 {
-    match verdict {
-        Verdict::Held => {
-            io::write_all(1, b"h");
-        }
-        Verdict::NotAsked => {
-            io::write_all(1, b"n");
-        }
-        Verdict::Broken => {
-            io::write_all(1, b"B");
-        }
-    }
-}
-
-fn summed(counts: Counts) {
-    io::write_all(1, b"\nheld ");
-    io::print_decimal(1, counts.held);
-    io::write_all(1, b" not asked ");
-    io::print_decimal(1, counts.not_asked);
-    io::write_all(1, b" broken ");
-    io::print_decimal(1, counts.broken);
-    io::write_all(1, b"\n");
+    let letter = match verdict {
+        Verdict::Held => b"h",
+        Verdict::NotAsked => b"n",
+        Verdict::Broken => b"B",
+    };
+    io::write_all(1, letter);
 }
 
 // What a record came to. At the end of the input, or where a record is cut or too long for the room, there is none.
-fn next(space: &mut [u8], cells: &mut [u16], before: &mut [u16], many: usize) -> Outcome
+fn next(space: &mut [u8], cells: &mut Cells) -> Option<Verdict>
     ensures { fair result ≡ true }
 {
-    let mut head = [0u8; 5];
+    let mut head = [0; 5];
     if io::read_full(0, &mut head) < 5 {
-        return Outcome::Ended;
+        return None;
     }
-    let size = long_at(&head, 1);
+    let size = long_at(&head, 1) as usize;
     if space.len() < size {
-        return Outcome::Ended;
+        return None;
     }
     let body: &mut [u8] = &mut space[..size];
     if io::read_full(0, body) < size {
-        return Outcome::Ended;
+        return None;
     }
-    judged(head[0], body, cells, before, many)
+    Some(judged(head[0], body, cells))
 }
 
 // Before the first record the held cells are 728, all 0.
-fn run(space: &mut [u8], cells: &mut [u16], before: &mut [u16]) {
+fn main() {
+    // A record's body: a history of some thousand calls.
+    let mut space = [0; 131_072];
+    let mut cells = Cells {
+        room: [0; 1_024],
+        many: 728,
+    };
     let mut counts = Counts {
         held: 0,
         not_asked: 0,
         broken: 0,
     };
-    let mut many: usize = 728;
-    let mut left = BUDGET;
-    while 0 < left {
-        match next(space, cells, before, many) {
-            Outcome::Ended => {
-                left = 0;
-            }
-            Outcome::Came(verdict, holds) => {
-                told(verdict);
-                counts = counted(counts, verdict);
-                many = holds;
-                left -= 1;
-            }
-        }
+    for _ in 0..BUDGET {
+        let Some(verdict) = next(&mut space, &mut cells) else {
+            break;
+        };
+        told(verdict);
+        counts.add(verdict);
     }
-    summed(counts);
-}
-
-fn cell_room() -> [u16; 1_024]
-    ensures { 1024 ≡ length result }
-{
-    [0; 1_024]
-}
-
-// A record's body: a history of some thousand calls.
-fn body_room() -> [u8; 131_072]
-    ensures { 131072 ≡ length result }
-{
-    [0; 131_072]
-}
-
-fn main() {
-    let mut space = body_room();
-    let mut cells = cell_room();
-    let mut before = cell_room();
-    run(&mut space, &mut cells, &mut before);
+    counts.print();
 }

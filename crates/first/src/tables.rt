@@ -1,7 +1,7 @@
 // The calls on a table. Each program is handed the cells twice: those that are lent to the core, and `before`, which holds the same and which
 // the core never sees. It is asked wherever the two are the same, whatever they hold and however many they are.
 ghost use Rattle.std.specs.Prelude.{◌≡◌, cond};
-ghost use Rattle.cells.specs.Lent.{cells_told, cells_read, cells_ticked, cells_cold};
+ghost use Rattle.cells.specs.Lent.{cells_told, cells_cold};
 ghost use Rattle.replies.specs.OnCells.{start_on, control_on, status_on, request_on};
 ghost use Rattle.passes.specs.OnCells.{tick_on};
 ghost use Rattle.verdict.specs.declared.Verdict.TheVariants.{Held, NotAsked};
@@ -15,7 +15,6 @@ use order::start::start_number;
 use order::status_read::status_number;
 use order::ticking::tick_number;
 use request::request;
-use table::form::{Answer, Closed, Status};
 use tick::tick;
 use verdict::Verdict;
 
@@ -28,8 +27,8 @@ pub fn first_start(cells: &mut [u16], before: &[u16], ports: u64) -> Verdict
     }
     let start_due = start_number(cells, ports);
     match cold_start(cells, ports) {
-        Answer::Done => answered(start_due),
-        Answer::Refused(number) => refused(start_due, number, same(before, cells)),
+        Ok(_) => answered(start_due),
+        Err(refusal) => refused(start_due, refusal.number(), same(before, cells)),
     }
 }
 
@@ -42,22 +41,22 @@ pub fn first_control(cells: &mut [u16], before: &[u16], port: u64, word: u64) ->
     }
     let control_due = control_number(cells, port, word);
     match write_control(cells, port, word) {
-        Answer::Done => answered(control_due),
-        Answer::Refused(number) => refused(control_due, number, same(before, cells)),
+        Ok(_) => answered(control_due),
+        Err(refusal) => refused(control_due, refusal.number(), same(before, cells)),
     }
 }
 
 pub fn first_status(cells: &mut [u16], before: &[u16], port: u64) -> Verdict
     ensures value { result ≡ cond (alike before.now cells.old) Held NotAsked }
-    ensures cells_after { cells.new ≡ cond (alike before.now cells.old) (cells_read (status_on cells.old port) cells.old) cells.old }
+    ensures cells_after { cells.new ≡ cond (alike before.now cells.old) (cells_told (status_on cells.old port) cells.old) cells.old }
 {
     if !same(before, cells) {
         return Verdict::NotAsked;
     }
     let status_due = status_number(cells, port);
     match read_status(cells, port) {
-        Status::Word(_) => answered(status_due),
-        Status::Refused(number) => refused(status_due, number, same(before, cells)),
+        Ok(_) => answered(status_due),
+        Err(refusal) => refused(status_due, refusal.number(), same(before, cells)),
     }
 }
 
@@ -70,21 +69,21 @@ pub fn first_request(cells: &mut [u16], before: &[u16], port: u64, value: u64) -
     }
     let request_due = request_number(cells, port, value);
     match request(cells, port, value) {
-        Answer::Done => answered(request_due),
-        Answer::Refused(number) => refused(request_due, number, same(before, cells)),
+        Ok(_) => answered(request_due),
+        Err(refusal) => refused(request_due, refusal.number(), same(before, cells)),
     }
 }
 
 pub fn first_tick(cells: &mut [u16], before: &[u16], block: &[u8], figure: u64) -> Verdict
     ensures value { result ≡ cond (alike before.now cells.old) Held NotAsked }
-    ensures cells_after { cells.new ≡ cond (alike before.now cells.old) (cells_ticked (tick_on cells.old block.now figure) cells.old) cells.old }
+    ensures cells_after { cells.new ≡ cond (alike before.now cells.old) (cells_told (tick_on cells.old block.now figure) cells.old) cells.old }
 {
     if !same(before, cells) {
         return Verdict::NotAsked;
     }
     let tick_due = tick_number(cells, block, figure);
     match tick(cells, block, figure) {
-        Closed::Ports(_, _, _) => answered(tick_due),
-        Closed::Refused(number) => refused(tick_due, number, same(before, cells)),
+        Ok(_) => answered(tick_due),
+        Err(refusal) => refused(tick_due, refusal.number(), same(before, cells)),
     }
 }

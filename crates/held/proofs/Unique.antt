@@ -4,6 +4,7 @@ use Prim.Native.Nat.{ℕ}
 use mathlib.Core.Path.{◌≡◌, sym, ◌∙◌}
 use mathlib.Core.List.{List}
 use Rattle.verdict.specs.declared.Verdict.{Verdict}
+use Rattle.held.specs.Alike.{UniqueAlike}
 use Rattle.held.specs.Unique.{One, OneWith, Unique}
 
 one : {A : Type 0} (x : A) → One A (λ r. r ≡ x)
@@ -15,8 +16,7 @@ with x y r s b c p q = (p.0 ∙ sym q.0, p.1 ∙ sym q.1)
 pub unique : Unique
 unique =
     record {
-      judge_same = λ before cells. one _;
-      judge_same_bytes = λ before room. one _;
+      judge_same = λ before after eq. one _;
       judge_answered = λ due. one _;
       judge_refused = λ due number unchanged. one _;
       ill_bad_word = λ word. one _;
@@ -38,3 +38,6 @@ unique =
       first_frames_first_read = λ bytes. one _;
       first_frames_first_write = λ fields room before. with _ _;
     }
+
+pub unique_alike : UniqueAlike
+unique_alike = record { same = λ before cells. one _; same_bytes = λ before room. one _ }

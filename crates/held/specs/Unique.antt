@@ -3,10 +3,11 @@
 -- the crate `statements`; `tools/public` compares.
 -- Assumes nothing.
 use Rattle.std.specs.Prelude.{ℕ, ◌≡◌, Bool, cond, not, ◌&&◌, List, eqb}
+use Rattle.std.specs.Cmp.Lexicographic.{pointwise}
 use Rattle.verdict.specs.declared.Verdict.{Verdict}
 use Rattle.verdict.specs.declared.Verdict.TheVariants.{Held, NotAsked, Broken}
 use Rattle.control.specs.Control.{refused}
-use Rattle.cells.specs.Lent.{cells_told, cells_read, cells_ticked, cells_cold}
+use Rattle.cells.specs.Lent.{cells_told, cells_cold}
 use Rattle.replies.specs.OnCells.{start_on, control_on, status_on, request_on}
 use Rattle.passes.specs.OnCells.{tick_on}
 use Rattle.reader.specs.Read.{read_refusals}
@@ -25,9 +26,12 @@ One A promise = (r s : A) → promise r → promise s → r ≡ s
 abbrev pub OneWith : (Verdict → List ℕ → Type 0) → Type 0
 OneWith promise = (r s : Verdict) (b c : List ℕ) → promise r b → promise s c → (r ≡ s) × (b ≡ c)
 
+-- and by whatever comparison the type of the elements brings, where these are numbers, as cells and bytes are
+abbrev pub OneBy : (A : Type 0) → (A → (ℕ → ℕ → Bool) → Type 0) → Type 0
+OneBy A promise = (eq : ℕ → ℕ → Bool) → One A (λ r. promise r eq)
+
 pub record Unique : Type 0 where
-  pub judge_same : (before cells : List ℕ) → One Bool (λ r. r ≡ alike before cells)
-  pub judge_same_bytes : (before room : List ℕ) → One Bool (λ r. r ≡ alike before room)
+  pub judge_same : (before after : List ℕ) → OneBy Bool (λ r eq. r ≡ pointwise eq before after)
   pub judge_answered : (due : ℕ) → One Verdict (λ r. r ≡ cond (eqb due 0) Held Broken)
   pub judge_refused : (due number : ℕ) (unchanged : Bool) → One Verdict (λ r. r ≡ cond ((eqb number due && not (eqb number 0)) && unchanged) Held Broken)
   pub ill_bad_word : (word : ℕ) → One Bool (λ r. r ≡ refused word)
@@ -42,9 +46,9 @@ pub record Unique : Type 0 where
   pub order_frames_write_number : (fields : Fields) (room : List ℕ) → One ℕ (λ r. r ≡ first_number (write_refusals fields room))
   pub first_tables_first_start : (cells before : List ℕ) (ports : ℕ) → OneWith (λ r cells'. (r ≡ cond (alike before cells) Held NotAsked) × (cells' ≡ cond (alike before cells) (cells_cold (start_on cells ports) cells) cells))
   pub first_tables_first_control : (cells before : List ℕ) (port word : ℕ) → OneWith (λ r cells'. (r ≡ cond (alike before cells) Held NotAsked) × (cells' ≡ cond (alike before cells) (cells_told (control_on cells port word) cells) cells))
-  pub first_tables_first_status : (cells before : List ℕ) (port : ℕ) → OneWith (λ r cells'. (r ≡ cond (alike before cells) Held NotAsked) × (cells' ≡ cond (alike before cells) (cells_read (status_on cells port) cells) cells))
+  pub first_tables_first_status : (cells before : List ℕ) (port : ℕ) → OneWith (λ r cells'. (r ≡ cond (alike before cells) Held NotAsked) × (cells' ≡ cond (alike before cells) (cells_told (status_on cells port) cells) cells))
   pub first_tables_first_request : (cells before : List ℕ) (port value : ℕ) → OneWith (λ r cells'. (r ≡ cond (alike before cells) Held NotAsked) × (cells' ≡ cond (alike before cells) (cells_told (request_on cells port value) cells) cells))
-  pub first_tables_first_tick : (cells before block : List ℕ) (figure : ℕ) → OneWith (λ r cells'. (r ≡ cond (alike before cells) Held NotAsked) × (cells' ≡ cond (alike before cells) (cells_ticked (tick_on cells block figure) cells) cells))
+  pub first_tables_first_tick : (cells before block : List ℕ) (figure : ℕ) → OneWith (λ r cells'. (r ≡ cond (alike before cells) Held NotAsked) × (cells' ≡ cond (alike before cells) (cells_told (tick_on cells block figure) cells) cells))
   pub first_frames_first_search : (pdu : List ℕ) → One Verdict (λ r. r ≡ Held)
   pub first_frames_first_read : (bytes : List ℕ) → One Verdict (λ r. r ≡ Held)
   pub first_frames_first_write : (fields : Fields) (room before : List ℕ) → OneWith (λ r room'. (r ≡ cond (alike before room) Held NotAsked) × (room' ≡ cond (alike before room) (room_after fields room) room))

@@ -14,12 +14,12 @@ use Rattle.lists.proofs.Places.{side}
 use Rattle.lists.proofs.Tests.{choice_on, fails_left, fails_right}
 use Rattle.port.specs.States.{is_idle}
 use Rattle.control.specs.Control.{refused}
-use Rattle.table.specs.Parts.{port_at, refuse, refuse_status}
+use Rattle.table.specs.Parts.{Told, port_at, refuse}
 use Rattle.table.proofs.Laws.{well_count}
-use Rattle.table.specs.declared.form.StatusRead.{StatusRead}
 use Rattle.table.specs.declared.form.Table.{Table}
-use Rattle.table.specs.declared.form.Ticked.{Ticked}
-use Rattle.table.specs.declared.form.Replied.{Replied}
+use Rattle.table.specs.declared.form.Closed.{Closed}
+use Rattle.std.specs.Prelude.{Result}
+use Rattle.sizes.specs.declared.refusals.Refusal.{Refusal}
 use Rattle.replies.specs.Calls.{control_refusals, write_control, status_refusals, read_status, request_refusals, request}
 use Rattle.passes.specs.Tick.{tick}
 use Rattle.interface.specs.Laws.{Are}
@@ -61,19 +61,19 @@ module _ (t : Table) (few : t.count ≤ 48) where
   control_still : (p w : ℕ) → (Fits (control p w) → ⊥) → (write_control t p w).table ≡ t
   unfolding write_control refuse refused above
   control_still p w odd =
-      ladder_holds (λ (r : Replied). r.table ≡ t) (λ k. refuse k t) _ (control_refusals t p w) (λ k. refl)
+      ladder_holds (λ (r : Told (Result Unit Refusal)). r.table ≡ t) (λ k. refuse k t) _ (control_refusals t p w) (λ k. refl)
       (λ c. absurd (odd (omega (arith, leb-false t.count p c.1.0), omega (arith, leb-false 64 w (fails_left (leb 64 w) _ c.1.1.0)))))
 
   status_still : (p : ℕ) → (Fits (status p) → ⊥) → (read_status t p).table ≡ t
-  unfolding read_status refuse_status
+  unfolding read_status refuse
   status_still p odd =
-      ladder_holds (λ (r : StatusRead). r.table ≡ t) (λ k. refuse_status k t) _ (status_refusals t p) (λ k. refl)
+      ladder_holds (λ (r : Told (Result ℕ Refusal)). r.table ≡ t) (λ k. refuse k t) _ (status_refusals t p) (λ k. refl)
       (λ c. absurd (odd (omega (arith, leb-false t.count p c.1.0))))
 
   request_still : (p v : ℕ) → (Fits (requested p v) → ⊥) → (request t p v).table ≡ t
   unfolding request refuse
   request_still p v odd =
-      ladder_holds (λ (r : Replied). r.table ≡ t) (λ k. refuse k t) _ (request_refusals t p v) (λ k. refl)
+      ladder_holds (λ (r : Told (Result Unit Refusal)). r.table ≡ t) (λ k. refuse k t) _ (request_refusals t p v) (λ k. refl)
       (λ c. absurd (odd (omega (arith, leb-false t.count p c.1.0), omega (arith, ltb-false _ v (fails_right (eqb v 0) _ c.1.1.0)))))
 
   stopped_left : (block : List ℕ) (figure : ℕ) → Stopped t (tick t block figure) → Left t (ticked block figure)
@@ -88,7 +88,7 @@ module _ (t : Table) (few : t.count ≤ 48) where
         call = ticked b.bytes figure;
         fits = (omega (arith, b.long), omega (arith, b.range));
         of_bytes = b.are_bytes;
-        table = ap (λ (r : Ticked). r.table) b.same;
+        table = ap (λ (r : Told (Result Closed Refusal)). r.table) b.same;
         shows = b.adds_same;
       }
 

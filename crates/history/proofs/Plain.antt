@@ -24,8 +24,8 @@ use Rattle.class.specs.Class.{class_of, is_four, class_of_two}
 use Rattle.class.proofs.Laws.{at_most_four, class_of_two_at_most_four}
 use Rattle.sample.specs.Sample.{sample_at, reserved_flags, flags_of}
 use Rattle.signature.specs.Signature.{outside, signature_of}
-use Rattle.class.specs.declared.Events.{Events}
-use Rattle.class.specs.declared.Events.TheVariants.{Is, OverCurrent, Disagree}
+use Rattle.class.specs.declared.Failure.{Failure}
+use Rattle.class.specs.declared.Failure.TheVariants.{OverCurrent, Disagree}
 use Rattle.sample.specs.declared.Sample.{Sample}
 use Rattle.signature.specs.declared.Signature.{Signature}
 use Rattle.signature.specs.declared.Signature.TheVariants.{Valid, Invalid, Open}
@@ -36,10 +36,12 @@ use Rattle.port.specs.declared.form.Reading.{Reading}
 use Rattle.diagram.specs.Step.{step}
 use Rattle.boards.specs.Masks.{answered}
 use Rattle.boards.specs.Sharing.{table_after}
-use Rattle.table.specs.Parts.{port_at, refuse_tick}
+use Rattle.table.specs.Parts.{Told, port_at, refuse}
 use Rattle.table.specs.WellMade.{ill_made}
 use Rattle.table.specs.declared.form.Table.{Table}
-use Rattle.table.specs.declared.form.Ticked.{Ticked}
+use Rattle.table.specs.declared.form.Closed.{Closed}
+use Rattle.std.specs.Prelude.{Result, Ok, Err}
+use Rattle.sizes.specs.declared.refusals.Refusal.{Refusal}
 use Rattle.block.specs.Digest.{detection_of, classing_of, digest}
 use Rattle.passes.specs.Tick.{moved_at, flags_reserved, tick_refusals, tick}
 use Rattle.statements.specs.History.{ticked, accepted, is_valid, is_class, shows_signature, gives_class, Shown, nothing, signature, both, seen, adds}
@@ -63,33 +65,33 @@ signature_back Valid = refl
 signature_back Invalid = refl
 signature_back Open = refl
 
-abbrev c1_of : Events → ℕ
-c1_of (Is k) = get_or (5000 ∷ 13000 ∷ 21000 ∷ 31000 ∷ 45000 ∷ []) k 0
-c1_of OverCurrent = 65535
-c1_of Disagree = 45000
+abbrev c1_of : Result ℕ Failure → ℕ
+c1_of (Ok k) = get_or (5000 ∷ 13000 ∷ 21000 ∷ 31000 ∷ 45000 ∷ []) k 0
+c1_of (Err OverCurrent) = 65535
+c1_of (Err Disagree) = 45000
 
-abbrev c2_of : Events → ℕ
-c2_of (Is k) = 45000
-c2_of OverCurrent = 45000
-c2_of Disagree = 0
+abbrev c2_of : Result ℕ Failure → ℕ
+c2_of (Ok k) = 45000
+c2_of (Err OverCurrent) = 45000
+c2_of (Err Disagree) = 0
 
-class_back : (x : Events) → at_most_four x ≡ true → (class_of_two (c1_of x) (c2_of x)).shown ≡ x
+class_back : (x : Result ℕ Failure) → at_most_four x ≡ true → (class_of_two (c1_of x) (c2_of x)).shown ≡ x
 unfolding class_of_two class_of is_four
-class_back (Is zero) e = refl
-class_back (Is (suc zero)) e = refl
-class_back (Is (suc (suc zero))) e = refl
-class_back (Is (suc (suc (suc zero)))) e = refl
-class_back (Is (suc (suc (suc (suc zero))))) e = refl
-class_back (Is (suc (suc (suc (suc (suc k)))))) e = absurd (omega (arith, leb-true (suc (suc (suc (suc (suc k))))) 4 e))
-class_back OverCurrent e = refl
-class_back Disagree e = refl
+class_back (Ok zero) e = refl
+class_back (Ok (suc zero)) e = refl
+class_back (Ok (suc (suc zero))) e = refl
+class_back (Ok (suc (suc (suc zero)))) e = refl
+class_back (Ok (suc (suc (suc (suc zero))))) e = refl
+class_back (Ok (suc (suc (suc (suc (suc k)))))) e = absurd (omega (arith, leb-true (suc (suc (suc (suc (suc k))))) 4 e))
+class_back (Err OverCurrent) e = refl
+class_back (Err Disagree) e = refl
 
 -- ---- the sample that shows what s shows
 
 abbrev signature_in : Sample → Signature
 signature_in s = signature_of s.v1 s.v2 s.i1 s.i2
 
-abbrev class_in : Sample → Events
+abbrev class_in : Sample → Result ℕ Failure
 class_in s = (class_of_two s.c1 s.c2).shown
 
 unfoldable plain : Sample → Sample
@@ -239,21 +241,21 @@ module _ (n : ℕ) (block : List ℕ) where
       small Open = omega arith
   word_small s f (suc (suc (suc (suc zero)))) = small (class_in s)
     where
-      small : (x : Events) → c1_of x < 65536
-      small (Is zero) = omega arith
-      small (Is (suc zero)) = omega arith
-      small (Is (suc (suc zero))) = omega arith
-      small (Is (suc (suc (suc zero)))) = omega arith
-      small (Is (suc (suc (suc (suc zero))))) = omega arith
-      small (Is (suc (suc (suc (suc (suc k)))))) = omega arith
-      small OverCurrent = omega arith
-      small Disagree = omega arith
+      small : (x : Result ℕ Failure) → c1_of x < 65536
+      small (Ok zero) = omega arith
+      small (Ok (suc zero)) = omega arith
+      small (Ok (suc (suc zero))) = omega arith
+      small (Ok (suc (suc (suc zero)))) = omega arith
+      small (Ok (suc (suc (suc (suc zero))))) = omega arith
+      small (Ok (suc (suc (suc (suc (suc k)))))) = omega arith
+      small (Err OverCurrent) = omega arith
+      small (Err Disagree) = omega arith
   word_small s f (suc (suc (suc (suc (suc zero))))) = small (class_in s)
     where
-      small : (x : Events) → c2_of x < 65536
-      small (Is k) = omega arith
-      small OverCurrent = omega arith
-      small Disagree = omega arith
+      small : (x : Result ℕ Failure) → c2_of x < 65536
+      small (Ok k) = omega arith
+      small (Err OverCurrent) = omega arith
+      small (Err Disagree) = omega arith
   word_small s f (suc (suc (suc (suc (suc (suc zero)))))) = f
   word_small s f (suc (suc (suc (suc (suc (suc (suc j))))))) = omega arith
 
@@ -273,17 +275,17 @@ module _ (t : Table) (block : List ℕ) (figure : ℕ) where
   b = plain_block t.count block
 
   clear : accepted (tick t block figure).answer ≡ true → Clear (tick_refusals t block figure)
-  unfolding tick refuse_tick
+  unfolding tick refuse
   clear =
-      ladder_holds (λ (r : Ticked). accepted r.answer ≡ true → Clear (tick_refusals t block figure)) (λ k. refuse_tick k t) _ (tick_refusals t block figure)
+      ladder_holds (λ (r : Told (Result Closed Refusal)). accepted r.answer ≡ true → Clear (tick_refusals t block figure)) (λ k. refuse k t) _ (tick_refusals t block figure)
       (λ k e. absurd (false≢true e))
       (λ c e. c)
 
   -- what the tick looks at of a block
-  by : ℕ → (ℕ → ℕ) → (ℕ → Reading) → Ticked
+  by : ℕ → (ℕ → ℕ) → (ℕ → Reading) → Told (Result Closed Refusal)
   by long flags readings =
       ladder ((13, ill_made t) ∷ (1, not (eqb long (14 * t.count))) ∷ (4, ltb 60000 figure) ∷ (3, some_below t.count (λ p. reserved_flags (flags p))) ∷ [])
-      (λ k. refuse_tick k t)
+      (λ k. refuse k t)
       (answered (table_after t (λ p. step forced (port_at t p) (readings p)) (tenths figure)))
 
   module _ (whole : length block ≡ 14 * t.count) where
@@ -298,7 +300,7 @@ module _ (t : Table) (block : List ℕ) (figure : ℕ) where
     same_adds : (p : ℕ) (x : Shown) → adds t p (ticked b figure) x ≡ adds t p (ticked block figure) x
     unfolding adds
     same_adds p x =
-        ap₂ (λ (r : Ticked) (y : Shown). cond (accepted r.answer) (cond (is_idle (port_at t p).state) x y) x) same_tick (alike_seen _ _ (alike t.count block whole p) x)
+        ap₂ (λ (r : Told (Result Closed Refusal)) (y : Shown). cond (accepted r.answer) (cond (is_idle (port_at t p).state) x y) x) same_tick (alike_seen _ _ (alike t.count block whole p) x)
 
 -- a block of bytes, with what it does
 pub record Plain (t : Table) (block : List ℕ) (figure : ℕ) : Type 0 where

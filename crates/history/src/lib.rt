@@ -5,7 +5,7 @@ mod bytes;
 mod shown;
 
 ghost use Rattle.std.specs.Prelude.{◌≡◌, ◌+◌, ◌-◌, ◌≤◌, min};
-ghost use Rattle.cells.specs.Lent.{cells_ticked};
+ghost use Rattle.cells.specs.Lent.{cells_told};
 ghost use Rattle.passes.specs.OnCells.{tick_on};
 ghost use Rattle.statements.specs.History.{ticked};
 ghost use Rattle.history.specs.Decode.{call_of, calls_of};
@@ -18,17 +18,17 @@ use ipaqsuni::tables::{
     ipaqsuni_cold_start, ipaqsuni_read_status, ipaqsuni_request, ipaqsuni_tick,
     ipaqsuni_write_control,
 };
-use marks::NOTHING;
+use marks::Mark;
 use marks::bytes::word_at;
 
 // The table that calls reached, and each port's mark.
 #[derive(Clone, Copy)]
 pub struct Reached {
     pub cells: [u16; 728],
-    pub shown: [u8; 48],
+    pub shown: [Mark; 48],
 }
 
-// What `ipaqsuni_tick` answers: its number, 0 where the tick is accepted, and what then stands in the two masks.
+// Kept a number with masks beside it, as the C interface answers: what `ipaqsuni_tick` answers: its number, 0 where the tick is accepted, and what then stands in the two masks.
 #[derive(Clone, Copy)]
 pub struct TickAnswer {
     pub number: u32,
@@ -39,7 +39,7 @@ pub struct TickAnswer {
 // The masks are lent as 0. A refused tick writes none: who looks at them looks at the number first.
 fn tick(cells: &mut [u16], block: &[u8], figure: u32) -> TickAnswer
     ensures value { result ≡ answer_of (tick_on cells.old block.now figure).answer }
-    ensures cells_after { cells.new ≡ cells_ticked (tick_on cells.old block.now figure) cells.old }
+    ensures cells_after { cells.new ≡ cells_told (tick_on cells.old block.now figure) cells.old }
 {
     let mut a = 0u64;
     let mut b = 0u64;
@@ -48,26 +48,27 @@ fn tick(cells: &mut [u16], block: &[u8], figure: u32) -> TickAnswer
     TickAnswer { number, a, b }
 }
 
-// One call, whatever is handed in. Was it a tick that was accepted?
+// One call, whatever is handed in. Was it a tick that was accepted? Kept a number: the kind is a byte of the record.
 fn call(cells: &mut [u16], kind: u8, port: u32, number: u32, block: &[u8]) -> bool
     ensures value { result ≡ ran_on cells.old (call_of kind port number block.now) }
     ensures cells_after { cells.new ≡ cells_after cells.old (call_of kind port number block.now) }
 {
-    if kind == 0 {
-        ipaqsuni_write_control(cells, port, number);
-        return false;
+    match kind {
+        0 => {
+            ipaqsuni_write_control(cells, port, number);
+            false
+        }
+        1 => {
+            let mut word = 0u32;
+            ipaqsuni_read_status(cells, port, &mut word);
+            false
+        }
+        2 => {
+            ipaqsuni_request(cells, port, number);
+            false
+        }
+        _ => tick(cells, block, number).number == 0,
     }
-    if kind == 1 {
-        let mut word = 0u32;
-        ipaqsuni_read_status(cells, port, &mut word);
-        return false;
-    }
-    if kind == 2 {
-        ipaqsuni_request(cells, port, number);
-        return false;
-    }
-    let answer = tick(cells, block, number);
-    answer.number == 0
 }
 
 fn next(from: Reached, kind: u8, port: u32, number: u32, block: &[u8]) -> Reached
@@ -86,10 +87,7 @@ fn end_of(start: usize, long: usize, size: usize) -> usize
     requires { start ≤ size }
     ensures { result ≡ start + min long (size - start) }
 {
-    if size - start < long {
-        return size;
-    }
-    start + long
+    start + long.min(size - start)
 }
 
 // A record is the call's kind, one byte; a port and a number, four bytes each; how long its block is, two bytes; and the block. The
@@ -100,9 +98,10 @@ pub fn run(history: &[u8], ports: u32) -> Reached
 {
     let mut cells = [0u16; 728];
     ipaqsuni_cold_start(&mut cells, ports);
-    let shown = [NOTHING; 48];
+    let shown = [Mark::Nothing; 48];
     let mut reached = Reached { cells, shown };
     let mut at = 0;
+    // Kept a `while`: a record is as long as it says.
     while 11 <= history.len() - at {
         let port = number_at(history, at + 1);
         let number = number_at(history, at + 5);
@@ -118,7 +117,7 @@ pub fn run(history: &[u8], ports: u32) -> Reached
 #[derive(Clone, Copy)]
 pub struct Tried {
     pub cells: [u16; 728],
-    pub shown: [u8; 48],
+    pub shown: [Mark; 48],
     pub answer: TickAnswer,
 }
 

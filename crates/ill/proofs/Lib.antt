@@ -1,1 +1,2 @@
 pub mod Ill
+pub mod Ranges

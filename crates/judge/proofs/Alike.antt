@@ -1,8 +1,8 @@
 -- What is proved of specs/Alike.
 -- Assumes nothing.
 use Prim.Native.Nat.{ℕ}
-use mathlib.Core.Path.{◌≡◌, refl}
-use mathlib.Core.Bool.{true}
+use mathlib.Core.Path.{◌≡◌, refl, sym, ◌∙◌, ap}
+use mathlib.Core.Bool.{Bool, true, false}
 use mathlib.Core.List.{List}
 use lib.Dec.{eqb}
 use lib.ListN.{length, get_or}
@@ -11,7 +11,10 @@ use borrow.Author.Tests.{eqb-true, eq-eqb}
 use Rattle.lists.specs.Every.{every}
 use Rattle.lists.proofs.Every.{every_at, every_of}
 use Rattle.lists.proofs.Tests.{and_left, and_right, and_both}
-use Rattle.judge.specs.Alike.{alike}
+use Rattle.std.specs.Cmp.Lexicographic.{pointwise}
+use Rattle.std.proofs.lemmas.Slice.Eq.{slice_eq-Decides}
+use Rattle.std.proofs.lemmas.Bool.Decides.{Decides-eqb}
+use Rattle.judge.specs.Alike.{alike, SameIsAlike}
 
 -- that is, the same list
 pub alike_is : (a b : List ℕ) → alike a b ≡ true → a ≡ b
@@ -25,3 +28,15 @@ alike_is a b e =
 pub alike_self : (a : List ℕ) → alike a a ≡ true
 unfolding alike
 alike_self a = and_both _ _ (eq-eqb (length a) (length a) refl) (every_of (length a) (λ k. eqb (get_or a k 0) (get_or a k 0)) (λ k h. eq-eqb (get_or a k 0) (get_or a k 0) refl))
+
+-- both say whether the lists are the same
+pub same_is_alike : SameIsAlike
+same_is_alike a b = go (pointwise eqb a b) (alike a b) refl refl
+  where
+    is : (pointwise eqb a b ≡ true → a ≡ b) × (a ≡ b → pointwise eqb a b ≡ true)
+    is = slice_eq-Decides Decides-eqb a b (pointwise eqb a b) refl
+
+    go : (x y : Bool) → pointwise eqb a b ≡ x → alike a b ≡ y → pointwise eqb a b ≡ alike a b
+    go true y e f = e ∙ sym (ap (alike a) (sym (is.0 e)) ∙ alike_self a)
+    go false true e f = is.1 (alike_is a b f) ∙ sym f
+    go false false e f = e ∙ sym f

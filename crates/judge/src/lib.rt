@@ -2,41 +2,16 @@
 #![tactic(auto)]
 
 ghost use Rattle.std.specs.Prelude.{◌≡◌, cond, not, ◌&&◌, eqb};
+ghost use Rattle.std.specs.Cmp.Lexicographic.{pointwise};
 ghost use Rattle.verdict.specs.declared.Verdict.TheVariants.{Held, Broken};
-ghost use Rattle.judge.specs.Alike.{alike};
 
 use verdict::Verdict;
 
-// As many cells, and each holds the same.
-pub fn same(before: &[u16], cells: &[u16]) -> bool
-    ensures { result ≡ alike before.now cells.now }
+// As many, and each the same: cells or bytes, as they were lent and as they are after the call.
+pub fn same<T: PartialEq>(before: &[T], after: &[T]) -> bool
+    ensures { result ≡ pointwise T.eq before.now after.now }
 {
-    if before.len() != cells.len() {
-        return false;
-    }
-    let mut all = true;
-    let mut k = 0;
-    while k < before.len() {
-        all = all & (before[k] == cells[k]);
-        k += 1;
-    }
-    all
-}
-
-// The same of bytes.
-pub fn same_bytes(before: &[u8], room: &[u8]) -> bool
-    ensures { result ≡ alike before.now room.now }
-{
-    if before.len() != room.len() {
-        return false;
-    }
-    let mut all = true;
-    let mut at = 0;
-    while at < before.len() {
-        all = all & (before[at] == room[at]);
-        at += 1;
-    }
-    all
+    before == after
 }
 
 // A call that answered: no condition may hold.

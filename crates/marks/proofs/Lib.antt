@@ -1,2 +1,2 @@
-pub mod Mark
+pub mod Marked
 pub mod Readings

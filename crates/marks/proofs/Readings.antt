@@ -9,13 +9,11 @@ use lib.Dec.{ltb, leb}
 use lib.IntN.{ℤ, pos, sub_ℕ, ◌-ℤ◌}
 use lib.Signed.{lt_z, le_z}
 use borrow.Author.Tests.{ltb-true, ltb-false, leb-true, leb-false, lt-ltb, le-ltb, le-leb, lt-leb}
-use Rattle.lists.proofs.Places.{side}
+use Rattle.std.specs.Prelude.{Option, Some, None}
 use Rattle.lists.proofs.Tests.{choice_on, or_either, or_right, fails_left, fails_right, not_leb}
 use Rattle.class.specs.Class.{class_of, is_four, class_of_two}
 use Rattle.statements.proofs.Currents.{low_class, high_class, four_is, reading}
 use Rattle.signature.specs.Signature.{outside, signature_of}
-use Rattle.class.specs.declared.Class.{Class}
-use Rattle.class.specs.declared.Class.TheVariants.{Is, Failure}
 use Rattle.signature.specs.declared.Signature.{Signature}
 use Rattle.signature.specs.declared.Signature.TheVariants.{Valid, Invalid, Open}
 use Rattle.statements.specs.History.{is_valid, is_class}
@@ -99,9 +97,9 @@ module _ (c1 c2 : ℕ) where
   unfolding class_of_two is_four
   class_twice h =
       pick (leb c1 45000) (ltb 31000 c2) (leb c2 45000)
-      ∙ ap₂ (λ (x : Class) (y : Bool). is_class (reading x y).shown) (sym (high_class c1 h)) (sym (four_is c2))
+      ∙ ap₂ (λ (x : Option ℕ) (y : Bool). is_class (reading x y).shown) (sym (high_class c1 h)) (sym (four_is c2))
     where
-      pick : (x y z : Bool) → ((x && y) && z) ≡ is_class (reading (cond x (Is 4) Failure) (y && z)).shown
+      pick : (x y z : Bool) → ((x && y) && z) ≡ is_class (reading (cond x (Some 4) None) (y && z)).shown
       pick true true true = refl
       pick true true false = refl
       pick true false z = refl

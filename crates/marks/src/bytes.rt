@@ -2,19 +2,13 @@
 ghost use Rattle.std.specs.Prelude.{◌≡◌, ◌<◌, get_or};
 ghost use Rattle.lists.specs.Bytes.{word_at};
 
-fn wide(byte: u8) -> u64
-    ensures { (result ≡ byte) × (result < 256) }
-{
-    byte as u64
-}
-
 fn byte_at(bytes: &[u8], at: usize) -> u64
     ensures { (result ≡ get_or bytes.now at 0) × (result < 256) }
 {
-    if at < bytes.len() {
-        return wide(bytes[at]);
+    match bytes.get(at) {
+        Some(byte) => *byte as u64,
+        None => 0,
     }
-    0
 }
 
 pub fn word_at(bytes: &[u8], at: usize) -> u64

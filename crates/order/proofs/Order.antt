@@ -1,6 +1,6 @@
 -- The first number of a list that starts with what is no table and what is ill-made.
 -- Assumes nothing.
-use Prim.Native.Nat.{ℕ, ◌+◌, ◌/◌, ◌%◌}
+use Prim.Native.Nat.{ℕ, ◌+◌, ◌*◌, ◌/◌, ◌%◌}
 use mathlib.Core.Path.{◌≡◌, refl, sym, ◌∙◌, ap, ap₂}
 use mathlib.Core.Bool.{Bool, true, false, not, ◌&&◌, ◌||◌, true≢false, false≢true}
 use mathlib.Core.List.{List, ◌∷◌}
@@ -11,17 +11,18 @@ use borrow.Author.Tests.{not-false}
 use Rattle.lists.specs.Bits.{field}
 use Rattle.lists.specs.Every.{some_below}
 use Rattle.lists.proofs.Tests.{not_leb}
-use Rattle.power.specs.Power.{over, fits}
+use Rattle.power.specs.Power.{over, fits, tenths}
 use Rattle.power.specs.declared.Power.{Power}
-use Rattle.class.specs.Class.{budgets, budget_of}
+use Rattle.class.specs.Class.{budgets, budget_of, level_of, over_class}
 use Rattle.port.specs.States.{in_disabled}
 use Rattle.port.specs.declared.form.State.{State}
-use Rattle.table.specs.Drawn.{closed_sum}
+use Rattle.sample.specs.Sample.{sample_at, reserved_flags}
+use Rattle.table.specs.Drawn.{draws, closed_sum}
 use Rattle.table.specs.Parts.{port_at}
 use Rattle.table.specs.WellMade.{ill_made}
 use Rattle.cells.specs.Cells.{table_of, is_table}
 use Rattle.cells.proofs.CodeLaws.{disabled_code}
-use Rattle.replies.specs.Calls.{same_alternative, level_of, over_class, granting, over_supply}
+use Rattle.replies.specs.Calls.{same_alternative, granting, over_supply}
 use Rattle.replies.specs.Rest.{AtPort}
 use Rattle.replies.proofs.OnLaws.{state_at, control_at, demand_at, class_at}
 use Rattle.well.specs.Judged.{well_cells}
@@ -61,6 +62,13 @@ well_cells_of l e = cells_of l (well_of l e)
 pub some_next : (n : ℕ) (f : ℕ → Bool) → some_below (n + 1) f ≡ (some_below n f || f n)
 unfolding some_below
 some_next n f = rw add-one
+
+-- what a port has of reserved flags, and what it draws with the change
+abbrev pub reserved_at : List ℕ → ℕ → Bool
+reserved_at block p = reserved_flags (sample_at block (14 * p)).flags
+
+abbrev pub draws_at : List ℕ → ℕ → ℕ → ℕ → ℕ
+draws_at l d at p = draws (port_at (granting (tenths d) at (table_of l)) p)
 
 -- ---- the conditions of a port's refusals, asked of its cells
 

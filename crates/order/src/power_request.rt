@@ -12,19 +12,18 @@ ghost use Rattle.interface.specs.Statement1C.{first_number, request_list};
 use ill::ill_made;
 
 // "Budgets for classes 0 to 4: 154, 40, 70, 154, 300".
-const BUDGETS: [u16; 5] = [154, 40, 70, 154, 300];
+pub const BUDGETS: [u16; 5] = [154, 40, 70, 154, 300];
 
 // "value 1..38 means demand 40, ..64 means 70, ..129 means 154, ..255 means 300."
 fn level(value: u64) -> u16
     ensures { result ≡ (level_of value).0 }
 {
-    if value <= 38 {
-        return 40;
+    match value {
+        ..=38 => 40,
+        ..=64 => 70,
+        ..=129 => 154,
+        _ => 300,
     }
-    if value <= 64 {
-        return 70;
-    }
-    if value <= 129 { 154 } else { 300 }
 }
 
 // What a port draws: its demand, if it is closed.
@@ -50,12 +49,9 @@ fn demands_with(cells: &[u16], at: usize, level: u16) -> u64
     requires { AtPort cells.now at }
     ensures { result ≡ closed_sum (granting (tenths level) at (table_of cells.now)) }
 {
-    let count = cells[0] as usize;
     let mut sum = 0;
-    let mut p = 0;
-    while p < count {
+    for p in 0..cells[0] as usize {
         sum += drawn(cells[8 + p], pick(p == at, level, cells[104 + p]));
-        p += 1;
     }
     sum
 }

@@ -6,25 +6,15 @@ ghost use Rattle.interface.specs.Statement1C.{first_number, tick_list};
 
 use ill::ill_made;
 
-fn wide(byte: u8) -> u64
-    ensures { (result ≡ byte) × (result < 256) }
-{
-    byte as u64
-}
-
 // "reserved bits .. in sample flags": the last two of a port's fourteen bytes, of which "15:6 zero".
 fn bad_flags(block: &[u8], ports: usize) -> bool
     requires { length block.now ≡ 14 * ports }
     ensures { result ≡ some_below ports (λ p. reserved_flags (sample_at block.now (14 * p)).flags) }
 {
-    let mut bad = false;
-    let mut p = 0;
-    while p < ports {
+    (0..ports).any(|p| {
         let at = 14 * p + 12;
-        bad = bad | (64 <= 256 * wide(block[at]) + wide(block[at + 1]));
-        p += 1;
-    }
-    bad
+        64 <= u16::from_be_bytes([block[at], block[at + 1]])
+    })
 }
 
 // "Tick: 1, 4, 3."

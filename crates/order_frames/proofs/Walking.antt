@@ -1,14 +1,14 @@
 -- What is proved of specs/Walking.
 -- Assumes nothing.
-use Prim.Native.Nat.{ℕ, ◌+◌, ◌≤◌}
+use Prim.Native.Nat.{ℕ, ◌+◌, ◌-◌, ◌≤◌, ◌<◌}
 use mathlib.Core.Path.{◌≡◌, ◌∙◌, ap}
 use mathlib.Core.Bool.{Bool, true, false, cond}
 use mathlib.Core.List.{List, ◌∷◌}
 use native.Mathlib.Omega.{arith}
 use lib.ListN.{length}
-use borrow.Author.Tests.{le-ltb}
+use borrow.Author.Tests.{le-ltb, lt-leb, lt-ltb, ne_eqb}
 use Rattle.lists.specs.Bits.{one}
-use Rattle.header.specs.Header.{is_power}
+use Rattle.header.specs.Header.{type_at, length_at, size_at, is_power}
 use Rattle.search.specs.Search.{is_cut, powers, powers_in, search_refusals}
 use Rattle.walk.specs.Walk.{step_of, Walk, walk_from}
 use Rattle.walk.proofs.Walked.{walk_ended, walk_cut, walk_tlv}
@@ -25,6 +25,27 @@ unfolding outlook counted_number
 looks bytes h =
     let none : length (powers_in bytes) ≡ 0 + length (powers_in bytes) = omega arith in
     simp (le-ltb _ _ h) (ap (λ (k : ℕ). cond (is_cut (walk_from bytes 0)) 6 (counted_number k)) none)
+
+-- what stands at a boundary that is not the end of the bytes
+module _ (bytes : List ℕ) (at : ℕ) (below : at < length bytes) where
+  -- "A lone last byte is cut (6)."
+  pub lone : length bytes - at < 2 → step_of bytes at ≡ Cut
+  unfolding step_of
+  lone a = simp (lt-leb _ _ below, lt-ltb _ _ a)
+
+  module _ (two : 2 ≤ length bytes - at) where
+    pub type_zero : type_at bytes at ≡ 0 → step_of bytes at ≡ End
+    unfolding step_of
+    type_zero z = simp (lt-leb _ _ below, le-ltb _ _ two, z)
+
+    module _ (more : type_at bytes at ≡ 0 → ⊥) where
+      pub too_long : length bytes - at < 2 + length_at bytes at → step_of bytes at ≡ Cut
+      unfolding step_of size_at
+      too_long a = simp (lt-leb _ _ below, le-ltb _ _ two, ne_eqb _ _ more, lt-ltb _ _ a)
+
+      pub whole_tlv : 2 + length_at bytes at ≤ length bytes - at → step_of bytes at ≡ Tlv (2 + length_at bytes at)
+      unfolding step_of size_at
+      whole_tlv a = simp (lt-leb _ _ below, le-ltb _ _ two, ne_eqb _ _ more, le-ltb _ _ a)
 
 module _ (bytes : List ℕ) (at n : ℕ) where
   pub ends : step_of bytes at ≡ End → outlook bytes n (walk_from bytes at) ≡ counted_number n

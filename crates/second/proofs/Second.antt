@@ -16,6 +16,9 @@ use Rattle.lists.proofs.Every.{every_of}
 use Rattle.lists.proofs.Places.{side}
 use Rattle.lists.proofs.Tests.{choice}
 use Rattle.lists.proofs.Total.{total_cong, total_less}
+use Rattle.std.specs.Prelude.{Result, Ok, Err}
+use Rattle.sizes.proofs.Refused.{numbered}
+use Rattle.sizes.specs.declared.refusals.Refusal.{Refusal}
 use Rattle.power.specs.Power.{forced, tenths}
 use Rattle.power.specs.declared.Power.{Power}
 use Rattle.sample.specs.Sample.{sample_at}
@@ -37,23 +40,22 @@ use Rattle.table.specs.Parts.{port_at}
 use Rattle.table.proofs.Laws.{well_count}
 use Rattle.table.specs.WellMade.{well_made}
 use Rattle.table.specs.declared.form.Closed.{Closed}
-use Rattle.table.specs.declared.form.Closed.TheVariants.{Ports, Refused}
 use Rattle.table.specs.declared.form.Table.{Table}
-use Rattle.table.specs.declared.form.Ticked.{Ticked}
+use Rattle.table.specs.Parts.{Told}
 use Rattle.cells.specs.Cells.{table_of, port_of, is_table, is_of_port}
 use Rattle.cells.proofs.CodeLaws.{closed_code}
 use Rattle.cells.specs.Codes.{state_of}
 use Rattle.cells.proofs.Laws.{table_at}
-use Rattle.cells.specs.Lent.{cells_ticked}
+use Rattle.cells.specs.Lent.{cells_told}
 use Rattle.cells.proofs.Round.{table_long}
 use Rattle.boards.proofs.MaskLaws.{closed_bits}
 use Rattle.boards.specs.Masks.{names_a, names_b, mask_a, mask_b}
 use Rattle.boards.specs.Sharing.{rank_at, kept_at}
 use Rattle.passes.specs.OnCells.{tick_on}
 use Rattle.passes.specs.Tick.{moved_at, tick_refusals, tick}
-use Rattle.ipaqsuni.specs.Calls.{tick_number}
-use Rattle.interface.specs.Laws.{Are, FairTick}
-use Rattle.interface.proofs.Laws.{next_call, zero_ticked, calls, untouched}
+use Rattle.ipaqsuni.specs.Outcome.{number_of}
+use Rattle.interface.specs.Laws.{Are}
+use Rattle.interface.proofs.Laws.{next_call, zero_left, calls, untouched}
 use Rattle.interface.specs.Statement1C.{first_number, tick_list}
 use Rattle.interface.proofs.Statement1C.{statement_1_c}
 use Rattle.statements.specs.History.{accepted}
@@ -118,9 +120,9 @@ first_fails : (b : Bool) (rs : List (ℕ × Bool)) → first_number ((13, not b)
 first_fails true rs e = refl
 first_fails false rs e = absurd (omega arith)
 
-accepts : (c : Closed) (u : Table) (after : List ℕ) → FairTick c u after → tick_number c ≡ 0 → accepted c ≡ true
-accepts (Ports a b n) u after fair e = refl
-accepts (Refused k) u after fair e = absurd (omega arith)
+accepts : (c : Result Closed Refusal) → number_of c ≡ 0 → accepted c ≡ true
+accepts (Ok x) e = refl
+accepts (Err k) e = absurd (numbered k e)
 
 names_a_lem : (n : ℕ) → names_a (choose Neither A B Both n) ≡ eqb n 1
 names_a_lem n = go (eqb n 0) (eqb n 1) (eqb n 2) refl refl
@@ -162,11 +164,11 @@ module _ (l block : List ℕ) (figure : ℕ) (zero : first_number (tick_list l b
   abbrev t : Table
   t = table_of l
 
-  abbrev r : Ticked
+  abbrev r : Told (Result Closed Refusal)
   r = tick_on l block figure
 
   abbrev m : List ℕ
-  m = cells_ticked r l
+  m = cells_told r l
 
   abbrev u : Table
   u = (tick t block figure).table
@@ -178,14 +180,14 @@ module _ (l block : List ℕ) (figure : ℕ) (zero : first_number (tick_list l b
   unfolding tick_on
   same = next_call t l (is, refl) (λ v. tick v block figure) _
 
-  number : tick_number r.answer ≡ 0
+  number : number_of r.answer ≡ 0
   number = statement_1_c.tick l block figure ∙ zero
 
   runs : accepted (tick t block figure).answer ≡ true
-  runs = subst (λ (x : Ticked). accepted x.answer ≡ true) same (accepts r.answer r.table m (calls.tick l block figure) number)
+  runs = subst (λ (x : Told (Result Closed Refusal)). accepted x.answer ≡ true) same (accepts r.answer number)
 
   are : Are u m
-  are = subst (λ (x : Ticked). Are x.table m) same (zero_ticked r.answer r.table m (calls.tick l block figure) number)
+  are = subst (λ (x : Told (Result Closed Refusal)). Are x.table m) same (zero_left r.answer r.table m (calls.tick l block figure) number)
 
   so : Ticks t block figure u (tick t block figure).answer
   so = statement_2.ticks t block figure runs
@@ -198,7 +200,7 @@ module _ (l block : List ℕ) (figure : ℕ) (zero : first_number (tick_list l b
       (tick_told_lem t block figure)
 
   -- for whoever says more of such a tick
-  pub ticked_are : Are (tick (table_of l) block figure).table (cells_ticked (tick_on l block figure) l)
+  pub ticked_are : Are (tick (table_of l) block figure).table (cells_told (tick_on l block figure) l)
   ticked_are = are
 
   pub ticked_so : Ticks (table_of l) block figure (tick (table_of l) block figure).table (tick (table_of l) block figure).answer
@@ -280,12 +282,12 @@ module _ (l block : List ℕ) (figure : ℕ) (zero : first_number (tick_list l b
 
   right : answer_right m r.answer ≡ true
   unfolding answer_right
-  right = ap (λ (x : Ticked). answer_right m x.answer) same ∙ ap (answer_right m) so.answers ∙ simp (are_apart, right_a, right_b, eq-eqb _ _ counted)
+  right = ap (λ (x : Told (Result Closed Refusal)). answer_right m x.answer) same ∙ ap (answer_right m) so.answers ∙ simp (are_apart, right_a, right_b, eq-eqb _ _ counted)
 
   -- ---- the rest
   count_is : r.table.count ≡ get_or l 0 0
   unfolding table_of
-  count_is = ap (λ (x : Ticked). x.table.count) same ∙ so.same_count
+  count_is = ap (λ (x : Told (Result Closed Refusal)). x.table.count) same ∙ so.same_count
 
   moved_control : (p : ℕ) → p < t.count → (port_at u p).control ≡ (port_at t p).control
   moved_control p h =
@@ -329,6 +331,6 @@ module _ (l block : List ℕ) (figure : ℕ) (zero : first_number (tick_list l b
   tick_is_right = simp (right, eq-eqb _ _ stored, kept)
 
 -- what the program has in hand after the tick
-pub right_in : (l block : List ℕ) (figure : ℕ) (after : List ℕ) (x : Closed) → x ≡ (tick_on l block figure).answer → after ≡ cells_ticked (tick_on l block figure) l
+pub right_in : (l block : List ℕ) (figure : ℕ) (after : List ℕ) (x : Result Closed Refusal) → x ≡ (tick_on l block figure).answer → after ≡ cells_told (tick_on l block figure) l
     → first_number (tick_list l block figure) ≡ 0 → tick_right l after x figure ≡ true
-right_in l block figure after x e f zero = ap₂ (λ (a : List ℕ) (y : Closed). tick_right l a y figure) f e ∙ tick_is_right l block figure zero
+right_in l block figure after x e f zero = ap₂ (λ (a : List ℕ) (y : Result Closed Refusal). tick_right l a y figure) f e ∙ tick_is_right l block figure zero

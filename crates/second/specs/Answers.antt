@@ -1,11 +1,11 @@
 -- What a tick answered, and the cells that it left.
 -- Assumes nothing.
-use Rattle.std.specs.Prelude.{ℕ, ◌+◌, ◌/◌, ◌%◌, Bool, false, not, ◌&&◌, ◌||◌, List, eqb, ltb, get_or}
+use Rattle.std.specs.Prelude.{ℕ, ◌+◌, ◌/◌, ◌%◌, Bool, false, not, ◌&&◌, ◌||◌, List, eqb, ltb, get_or, Result, Ok, Err}
+use Rattle.sizes.specs.declared.refusals.Refusal.{Refusal}
 use Rattle.lists.specs.Bits.{bit}
 use Rattle.lists.specs.Count.{count}
 use Rattle.lists.specs.Every.{every}
 use Rattle.table.specs.declared.form.Closed.{Closed}
-use Rattle.table.specs.declared.form.Closed.TheVariants.{Ports, Refused}
 
 abbrev pub agree : Bool → Bool → Bool
 agree x y = (x && y) || (not x && not y)
@@ -27,6 +27,6 @@ unfoldable pub apart : ℕ → ℕ → Bool
 apart a b = every 64 (λ p. not (bit p a && bit p b))
 
 -- "and a number of closed ports equal to the ones in the two masks"
-unfoldable pub answer_right : List ℕ → Closed → Bool
-answer_right l (Ports a b n) = ((apart a b && bits_right l a 1) && bits_right l b 2) && eqb (count 64 (λ p. bit p a) + count 64 (λ p. bit p b)) n
-answer_right l (Refused k) = false
+unfoldable pub answer_right : List ℕ → Result Closed Refusal → Bool
+answer_right l (Ok x) = ((apart x.a x.b && bits_right l x.a 1) && bits_right l x.b 2) && eqb (count 64 (λ p. bit p x.a) + count 64 (λ p. bit p x.b)) x.number
+answer_right l (Err refusal) = false

@@ -1,5 +1,5 @@
 // What a tick leaves as it was.
-ghost use Rattle.std.specs.Prelude.{◌≡◌, ◌<◌, length};
+ghost use Rattle.std.specs.Prelude.{◌≡◌};
 ghost use Rattle.second.specs.Untouched.{may_change, rest_kept};
 
 // A tick may change the stored figure, cell 1, and the fields of a port below the count except the control words, which stand from cell 56
@@ -14,16 +14,9 @@ fn may_change(k: usize, ports: usize) -> bool
     ((k < 56) | (104 <= k)) & (k < 584) & ((k - 8) % 48 < ports)
 }
 
-pub fn rest_kept(before: &[u16], after: &[u16]) -> bool
-    requires { (length before.now ≡ 728) × (length after.now ≡ 728) }
+pub fn rest_kept(before: &[u16; 728], after: &[u16; 728]) -> bool
     ensures { result ≡ rest_kept before.now after.now }
 {
     let ports = before[0] as usize;
-    let mut all = true;
-    let mut k = 0;
-    while k < 728 {
-        all = all & (may_change(k, ports) | (after[k] == before[k]));
-        k += 1;
-    }
-    all
+    (0..728).all(|k| may_change(k, ports) | (after[k] == before[k]))
 }

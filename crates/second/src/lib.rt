@@ -5,10 +5,11 @@
 // `Ticks` of the crate `statements`. "The rule by which the supply is shared" has a program of its own, in the crate `second_sharing`.
 #![tactic(auto)]
 
+pub mod closed;
 mod kept;
 mod masks;
 
-ghost use Rattle.std.specs.Prelude.{◌≡◌, cond, eqb, length};
+ghost use Rattle.std.specs.Prelude.{◌≡◌, cond, eqb};
 ghost use Rattle.interface.specs.Statement1C.{first_number, tick_list};
 ghost use Rattle.verdict.specs.declared.Verdict.TheVariants.{Held, NotAsked};
 ghost use Rattle.second.specs.Second.{tick_right};
@@ -16,13 +17,18 @@ ghost use Rattle.second.specs.Second.{tick_right};
 use crate::kept::rest_kept;
 use crate::masks::answer_right;
 use order::ticking::tick_number;
+use sizes::refusals::Refusal;
 use table::form::Closed;
 use tick::tick;
 use verdict::Verdict;
 
 // What was answered is right, "the figure is then stored", in cell 1, and the rest is as it was.
-fn tick_right(before: &[u16], after: &[u16], answer: Closed, figure: u64) -> bool
-    requires { (length before.now ≡ 728) × (length after.now ≡ 728) }
+fn tick_right(
+    before: &[u16; 728],
+    after: &[u16; 728],
+    answer: Result<Closed, Refusal>,
+    figure: u64,
+) -> bool
     ensures { result ≡ tick_right before.now after.now answer figure }
 {
     let stored = after[1] as u64 == figure;

@@ -8,6 +8,7 @@ use mathlib.Core.Logic.{⊎_elim}
 use native.Mathlib.Omega.{arith}
 use lib.Dec.{eqb, ltb}
 use lib.ListN.{length, get_or, take, drop, length-append, length-drop, get_or-eq_default}
+use Rattle.std.specs.Prelude.{Result, Ok, Err}
 use lib.Seq.{take_at, drop_at}
 use borrow.Author.Tests.{lt-ltb, le-ltb, eq-eqb, ltb-true, ltb-false, eqb-true}
 use Rattle.lists.specs.Bits.{field}
@@ -19,12 +20,10 @@ use Rattle.fields.specs.declared.Fields.{Fields}
 use Rattle.fields.specs.declared.Form.{Form}
 use Rattle.fields.specs.declared.Form.TheVariants.{Short, Long}
 use Rattle.reader.specs.Read.{read_of}
-use Rattle.reader.specs.declared.ReadAnswer.{ReadAnswer}
-use Rattle.reader.specs.declared.ReadAnswer.TheVariants.{Is as Took}
 use Rattle.reader.proofs.ExactlyOne.{whole, lengths}
 use Rattle.writer.specs.Write.{bytes_of, write_refusals, written_of, left, room_after}
-use Rattle.writer.specs.declared.Written.{Written}
-use Rattle.writer.specs.declared.Written.TheVariants.{Is as Wrote, Refused as NotWritten}
+use Rattle.sizes.specs.declared.refusals.Refusal.{Refusal}
+use Rattle.sizes.specs.Refused.{refused}
 use Rattle.tlv.specs.Laws.{is_byte}
 use Rattle.tlv.proofs.ReadRewrites.{taken, read_rewrites}
 use Rattle.tlv.proofs.WrittenReads.{written_reads}
@@ -41,22 +40,22 @@ unfolding bytes_of
 sized s p k Short = refl
 sized s p k (Long a) = refl
 
-module _ (f : Fields) (room : List ℕ) (n : ℕ) (e : written_of f room ≡ Wrote n) where
+module _ (f : Fields) (room : List ℕ) (n : ℕ) (e : written_of f room ≡ Ok n) where
   size : length (bytes_of f) ≡ n
   unfolding written_of
   size =
-      let h = ladder_value NotWritten (Wrote (length (bytes_of f))) (Wrote n) (λ k q. let z : ◌≡◌ {A = ℕ} 0 1 = cc in omega arith) (write_refusals f room) e in
+      let h = ladder_value refused (Ok (length (bytes_of f))) (Ok n) (λ k q. cc) (write_refusals f room) e in
       cc
 
   fits : n ≤ length room
   unfolding written_of
   fits =
-      let h = ladder_value NotWritten (Wrote (length (bytes_of f))) (Wrote n) (λ k q. let z : ◌≡◌ {A = ℕ} 0 1 = cc in omega arith) (write_refusals f room) e in
+      let h = ladder_value refused (Ok (length (bytes_of f))) (Ok n) (λ k q. cc) (write_refusals f room) e in
       omega (arith, size, ltb-false (length room) (length (bytes_of f)) h.0.1.1.0)
 
   after : room_after f room ≡ bytes_of f ++ drop n room
   unfolding room_after
-  after = ap (λ (w : Written). left w f room) e
+  after = ap (λ (w : Result ℕ Refusal). left w f room) e
 
   past : drop n (room_after f room) ≡ drop n room
   past = ap (drop n) after ∙ drop_at (bytes_of f) (drop n room) n size
@@ -70,11 +69,11 @@ module _ (f : Fields) (room : List ℕ) (n : ℕ) (e : written_of f room ≡ Wro
   right : written_right f n (room_after f room) room ≡ true
   unfolding written_right reads_as
   right =
-      let reads : is_taken (read_of (take n (room_after f room))) f ≡ true = ap (λ (t : ReadAnswer). is_taken t f) (written_reads f room n e) ∙ fields_self f in
+      let reads : is_taken (read_of (take n (room_after f room))) f ≡ true = ap (λ (t : Result Fields Refusal). is_taken t f) (written_reads f room n e) ∙ fields_self f in
       simp (eq-eqb n (tlv_size f.form) (sym size ∙ sized f.support f.pair f.class f.form), long, le-ltb (length room) n fits, reads, past_kept)
 
 -- what the program has in hand
-pub write_right : (f : Fields) (room before after : List ℕ) (n : ℕ) → before ≡ room → after ≡ room_after f room → written_of f room ≡ Wrote n → written_right f n after before ≡ true
+pub write_right : (f : Fields) (room before after : List ℕ) (n : ℕ) → before ≡ room → after ≡ room_after f room → written_of f room ≡ Ok n → written_right f n after before ≡ true
 write_right f room before after n b a e = rw (b, a) (right f room n e)
 
 -- ---- what was read
@@ -85,7 +84,7 @@ unfolding all
 all_of f [] h = refl
 all_of f (x ∷ xs) h = simp (h 0, all_of f xs (λ k. h (suc k)))
 
-module _ (bytes : List ℕ) (byte : (k : ℕ) → get_or bytes k 0 < 256) (zero : zero_sent bytes ≡ true) (f : Fields) (reads : read_of bytes ≡ Took f) (room : List ℕ) (much : 14 ≤ length room) where
+module _ (bytes : List ℕ) (byte : (k : ℕ) → get_or bytes k 0 < 256) (zero : zero_sent bytes ≡ true) (f : Fields) (reads : read_of bytes ≡ Ok f) (room : List ℕ) (much : 14 ≤ length room) where
   short_enough : length bytes ≤ length room
   short_enough =
       let one = (taken bytes f reads).0 in
@@ -99,13 +98,13 @@ module _ (bytes : List ℕ) (byte : (k : ℕ) → get_or bytes k 0 < 256) (zero 
       (λ (e : eqb (field 2 2 (get_or bytes 9 0)) 0 ≡ true). eqb-true _ 0 e)
       (or_either (ltb (length bytes) 10) _ zero)
 
-  again : (Wrote (length bytes) ≡ written_of f room) × (bytes ++ drop (length bytes) room ≡ room_after f room)
+  again : (Ok (length bytes) ≡ written_of f room) × (bytes ++ drop (length bytes) room ≡ room_after f room)
   again = read_rewrites bytes (all_of is_byte bytes (λ k. lt-ltb _ 256 (byte k))) f reads bits room short_enough
 
-  pub read_written : (k : ℕ) → written_of f room ≡ NotWritten k → ⊥
-  read_written k e = let a = again.0 in let z : ◌≡◌ {A = ℕ} 0 1 = cc in omega arith
+  pub read_written : (r : Refusal) → written_of f room ≡ Err r → ⊥
+  read_written r e = let a = again.0 in cc
 
-  pub read_right : (after : List ℕ) (n : ℕ) → after ≡ room_after f room → written_of f room ≡ Wrote n → rewritten_right bytes n after room ≡ true
+  pub read_right : (after : List ℕ) (n : ℕ) → after ≡ room_after f room → written_of f room ≡ Ok n → rewritten_right bytes n after room ≡ true
   unfolding rewritten_right
   read_right after n a e =
       let long_is : length bytes ≡ n = let b = again.0 in cc in

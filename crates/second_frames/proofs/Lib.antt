@@ -1,3 +1,4 @@
+pub mod Due
 pub mod Held
 pub mod Means
 pub mod Right

@@ -7,6 +7,7 @@ use mathlib.Core.Bool.{Bool, true, false, cond, not, ◌&&◌, false≢true}
 use mathlib.Core.List.{List}
 use lib.Dec.{eqb, ltb}
 use lib.ListN.{length, take, drop}
+use Rattle.std.specs.Prelude.{Result, Ok, Err}
 use borrow.Author.Tests.{eqb-true, not-false}
 use Rattle.lists.proofs.Tests.{and_left, and_right}
 use Rattle.fields.specs.declared.Added.{Added}
@@ -14,8 +15,7 @@ use Rattle.fields.specs.declared.Fields.{Fields}
 use Rattle.fields.specs.declared.Form.{Form}
 use Rattle.fields.specs.declared.Form.TheVariants.{Short, Long}
 use Rattle.reader.specs.Read.{read_of}
-use Rattle.reader.specs.declared.ReadAnswer.{ReadAnswer}
-use Rattle.reader.specs.declared.ReadAnswer.TheVariants.{Is as Took, Refused as NotTaken}
+use Rattle.sizes.specs.declared.refusals.Refusal.{Refusal}
 use Rattle.judge.specs.Alike.{alike}
 use Rattle.judge.proofs.Alike.{alike_is}
 use Rattle.second_frames.specs.Right.{tlv_size, is_taken, reads_as, written_right, rewritten_right}
@@ -63,9 +63,9 @@ fields_are x y e =
     λ i. record { support = support i; pair = pair i; class = class i; form = form i }
 
 -- whatever the reader answered
-pub taken_is : (t : ReadAnswer) (f : Fields) → is_taken t f ≡ true → t ≡ Took f
-taken_is (Took g) f e = ap Took (fields_are g f e)
-taken_is (NotTaken k) f e = absurd (false≢true e)
+pub taken_is : (t : Result Fields Refusal) (f : Fields) → is_taken t f ≡ true → t ≡ Ok f
+taken_is (Ok g) f e = ap Ok (fields_are g f e)
+taken_is (Err r) f e = absurd (false≢true e)
 
 -- ---- the same bytes
 
@@ -76,7 +76,7 @@ past_test false b e = (refl, e)
 
 module _ (n : ℕ) (room before : List ℕ) where
   -- "Whatever is written reads back as written"; "Room past a written TLV keeps its bytes."
-  pub written_means : (f : Fields) → written_right f n room before ≡ true → (n ≡ tlv_size f.form) × (read_of (take n room) ≡ Took f) × (drop n before ≡ drop n room)
+  pub written_means : (f : Fields) → written_right f n room before ≡ true → (n ≡ tlv_size f.form) × (read_of (take n room) ≡ Ok f) × (drop n before ≡ drop n room)
   unfolding written_right reads_as
   written_means f e =
       let one = past_test (not (eqb n (tlv_size f.form))) _ e in

@@ -1,12 +1,11 @@
 -- What the program looks at once a frame is written.
 -- Assumes nothing.
-use Rattle.std.specs.Prelude.{ℕ, Bool, false, cond, not, ◌&&◌, List, eqb, ltb, length, take, drop}
+use Rattle.std.specs.Prelude.{ℕ, Bool, false, cond, not, ◌&&◌, List, eqb, ltb, length, take, drop, Result, Ok, Err}
 use Rattle.fields.specs.declared.Fields.{Fields}
 use Rattle.fields.specs.declared.Form.{Form}
 use Rattle.fields.specs.declared.Form.TheVariants.{Short, Long}
 use Rattle.reader.specs.Read.{read_of}
-use Rattle.reader.specs.declared.ReadAnswer.{ReadAnswer}
-use Rattle.reader.specs.declared.ReadAnswer.TheVariants.{Is as Took, Refused as NotTaken}
+use Rattle.sizes.specs.declared.refusals.Refusal.{Refusal}
 use Rattle.judge.specs.Alike.{alike}
 use Rattle.second_frames.specs.Same.{same_fields}
 
@@ -15,9 +14,9 @@ abbrev pub tlv_size : Form → ℕ
 tlv_size Short = 9
 tlv_size (Long a) = 14
 
-abbrev pub is_taken : ReadAnswer → Fields → Bool
-is_taken (Took g) f = same_fields g f
-is_taken (NotTaken k) f = false
+abbrev pub is_taken : Result Fields Refusal → Fields → Bool
+is_taken (Ok g) f = same_fields g f
+is_taken (Err r) f = false
 
 -- "reads back as written"
 unfoldable pub reads_as : List ℕ → Fields → Bool

@@ -14,8 +14,9 @@ use Rattle.power.specs.declared.Power.{Power}
 use Rattle.sample.specs.Sample.{flags_of}
 use Rattle.sample.specs.declared.Sample.{Sample}
 use Rattle.class.specs.Class.{class_of_two, budget_of}
-use Rattle.class.specs.declared.Events.{Events}
-use Rattle.class.specs.declared.Events.TheVariants.{Is, OverCurrent, Disagree}
+use Rattle.std.specs.Prelude.{Result, Ok, Err}
+use Rattle.class.specs.declared.Failure.{Failure}
+use Rattle.class.specs.declared.Failure.TheVariants.{OverCurrent, Disagree}
 use Rattle.control.specs.Control.{priority_of}
 use Rattle.status.specs.Status.{join}
 use Rattle.port.specs.Entry.{enter}
@@ -51,10 +52,10 @@ Budgeted ClassedOver = Unit {0}
 Budgeted ClassedApart = Unit {0}
 Budgeted (Classed k d) = d ≡ budget_of k
 
-classing_budgeted : (x : Events) → Budgeted (classing_of x)
-classing_budgeted (Is k) = refl
-classing_budgeted OverCurrent = tt
-classing_budgeted Disagree = tt
+classing_budgeted : (x : Result ℕ Failure) → Budgeted (classing_of x)
+classing_budgeted (Ok k) = refl
+classing_budgeted (Err OverCurrent) = tt
+classing_budgeted (Err Disagree) = tt
 
 read_budgeted : (s : Sample) → Budgeted (digest s).class
 unfolding digest

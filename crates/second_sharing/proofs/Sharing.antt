@@ -34,7 +34,7 @@ use Rattle.cells.specs.Cells.{table_of, port_of, port_holds, is_table}
 use Rattle.cells.proofs.CodeLaws.{closed_code, code_again}
 use Rattle.cells.specs.Codes.{state_of, latches_of}
 use Rattle.cells.proofs.Laws.{table_at}
-use Rattle.cells.specs.Lent.{cells_ticked}
+use Rattle.cells.specs.Lent.{cells_told}
 use Rattle.boards.specs.Sharing.{rank_at, claim_at}
 use Rattle.passes.specs.OnCells.{tick_on}
 use Rattle.passes.specs.Tick.{moved_at, tick}
@@ -112,7 +112,7 @@ module _ (l block : List ℕ) (figure : ℕ) (zero : first_number (tick_list l b
   t = table_of l
 
   abbrev m : List ℕ
-  m = cells_ticked (tick_on l block figure) l
+  m = cells_told (tick_on l block figure) l
 
   abbrev u : Table
   u = (tick t block figure).table
@@ -353,6 +353,6 @@ module _ (l block : List ℕ) (figure : ℕ) (zero : first_number (tick_list l b
       (first_of l m 48)))
 
 -- what the program has in hand after the tick
-pub shares_in : (l block : List ℕ) (figure : ℕ) (after : List ℕ) → after ≡ cells_ticked (tick_on l block figure) l → first_number (tick_list l block figure) ≡ 0
+pub shares_in : (l block : List ℕ) (figure : ℕ) (after : List ℕ) → after ≡ cells_told (tick_on l block figure) l → first_number (tick_list l block figure) ≡ 0
     → none_denied l ≡ true → shares_right l after figure ≡ true
 shares_in l block figure after e zero none = ap (λ (a : List ℕ). shares_right l a figure) e ∙ tick_shares l block figure zero none

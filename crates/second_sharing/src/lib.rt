@@ -6,62 +6,44 @@
 
 mod ranking;
 
-ghost use Rattle.std.specs.Prelude.{◌≡◌, cond, ◌&&◌, ◌+◌, ◌%◌, ◌<◌, ◌≤◌, ◌^◌, min, eqb, length, get_or};
+ghost use Rattle.std.specs.Prelude.{◌≡◌, cond, ◌&&◌, ◌+◌, ◌%◌, ◌<◌, ◌^◌, eqb, get_or};
 ghost use Rattle.interface.specs.Statement1C.{first_number, tick_list};
 ghost use Rattle.verdict.specs.declared.Verdict.TheVariants.{Held, NotAsked};
-ghost use Rattle.second_sharing.specs.Shared.{denied_cell, none_denied, place_cell, first_shed, port_right, ports_right, kept_cells, shares_right};
+ghost use Rattle.second_sharing.specs.Shared.{none_denied, first_shed, port_right, ports_right, kept_cells, shares_right};
 ghost use Rattle.second.specs.Answers.{closed_cell};
 
-use crate::ranking::{claim, entered, is_closed, is_denied, left, place};
+use crate::ranking::{claim, entered, is_denied, left, place};
 use order::ticking::tick_number;
+use second::closed::is_closed;
 use tick::tick;
 use verdict::Verdict;
 
 // No port below the count has latch 12.
-fn none_denied(cells: &[u16]) -> bool
-    requires { length cells.now ≡ 728 }
+fn none_denied(cells: &[u16; 728]) -> bool
     ensures { result ≡ none_denied cells.now }
 {
-    let mut none = true;
-    let mut p = 0;
-    while p < 48 {
-        none = none & !is_denied(cells, p);
-        p += 1;
-    }
-    none
+    (0..48).all(|p| !is_denied(cells, p))
 }
 
-// The place of the first that is shed, so far and with this port. It is 384, past all places, while none is.
-fn sooner(first: usize, before: &[u16], after: &[u16], p: usize) -> usize
-    requires { (length before.now ≡ 728) × (length after.now ≡ 728) × (p < 48) × (first ≤ 384) × (first % 64 < 48) }
-    ensures { (result ≡ min first (cond (denied_cell after.now p) (place_cell before.now p) 384)) × (result ≤ 384) × (result % 64 < 48) }
-{
-    if !is_denied(after, p) {
-        return first;
-    }
-    let here = place(before, p);
-    if here < first { here } else { first }
-}
-
-fn first_shed(before: &[u16], after: &[u16]) -> usize
-    requires { (length before.now ≡ 728) × (length after.now ≡ 728) }
+// The place of the first that is shed. It is 384, past all places, where none is.
+fn first_shed(before: &[u16; 728], after: &[u16; 728]) -> usize
     ensures { (result ≡ first_shed before.now after.now 48) × (result % 64 < 48) }
 {
     let mut first = 384;
-    let mut p = 0;
-    while p < 48 {
-        first = sooner(first, before, after, p);
-        p += 1;
+    for p in 0..48 {
+        if is_denied(after, p) {
+            first = first.min(place(before, p));
+        }
     }
     first
 }
 
 // A kept port ranks before all that is shed, and draws what it claimed. Kept or shed, it is where it should be, so that none is both.
-fn port_right(before: &[u16], after: &[u16], first: usize, p: usize) -> bool
-    requires { (length before.now ≡ 728) × (length after.now ≡ 728) × (p < 48) }
+fn port_right(before: &[u16; 728], after: &[u16; 728], first: usize, p: u8) -> bool
+    requires { p < 48 }
     ensures { result ≡ port_right before.now after.now first p }
 {
-    let draws = after[104 + p] as u64;
+    let draws = after[104 + p as usize] as u64;
     let kept = (place(before, p) < first)
         & (draws == claim(before, after, p))
         & entered(before, after, p);
@@ -69,59 +51,40 @@ fn port_right(before: &[u16], after: &[u16], first: usize, p: usize) -> bool
     (!is_closed(after, p) | kept) & (!is_denied(after, p) | shed)
 }
 
-fn ports_right(before: &[u16], after: &[u16], first: usize) -> bool
-    requires { (length before.now ≡ 728) × (length after.now ≡ 728) }
+fn ports_right(before: &[u16; 728], after: &[u16; 728], first: usize) -> bool
     ensures { result ≡ ports_right before.now after.now first }
 {
-    let mut all = true;
-    let mut p = 0;
-    while p < 48 {
-        all = all & port_right(before, after, first, p);
-        p += 1;
-    }
-    all
+    (0..48).all(|p| port_right(before, after, first, p))
 }
 
-fn drawn(cells: &[u16], p: usize) -> u64
-    requires { (length cells.now ≡ 728) × (p < 48) }
+fn drawn(cells: &[u16; 728], p: u8) -> u64
     ensures { (result ≡ cond (closed_cell cells.now p) (get_or cells.now (104 + p) 0) 0) × (result < 2 ^ 16) }
 {
     if is_closed(cells, p) {
-        return cells[104 + p] as u64;
+        cells[104 + p as usize] as u64
+    } else {
+        0
     }
-    0
 }
 
-fn kept_sum(cells: &[u16]) -> u64
-    requires { length cells.now ≡ 728 }
+fn kept_sum(cells: &[u16; 728]) -> u64
     ensures { (result ≡ kept_cells cells.now) × (result < 2 ^ 32) }
 {
     let mut sum = 0;
-    let mut p = 0;
-    while p < 48 {
+    for p in 0..48 {
         sum += drawn(cells, p);
-        p += 1;
     }
     sum
 }
 
 // "claims are kept while the sum of demands is at most the supply. The first that doesn't fit and all after it are shed".
-fn shares_right(before: &[u16], after: &[u16], figure: u64) -> bool
-    requires { (length before.now ≡ 728) × (length after.now ≡ 728) }
+fn shares_right(before: &[u16; 728], after: &[u16; 728], figure: u64) -> bool
     ensures { result ≡ shares_right before.now after.now figure }
 {
     let first = first_shed(before, after);
     let sum = kept_sum(after);
-    if !ports_right(before, after, first) {
-        return false;
-    }
-    if figure < sum {
-        return false;
-    }
-    if first == 384 {
-        return true;
-    }
-    figure < sum + claim(before, after, first % 64)
+    let with_first = sum + claim(before, after, (first % 64) as u8);
+    ports_right(before, after, first) & (sum <= figure) & ((first == 384) | (figure < with_first))
 }
 
 // Any cells and any bytes: it is asked wherever document 01 refuses nothing and no port has latch 12. The tick is made on a copy of the cells.
@@ -135,7 +98,7 @@ pub fn second_shares(before: [u16; 728], block: &[u8], figure: u64) -> Verdict
         return Verdict::NotAsked;
     }
     let mut after = before;
-    tick(&mut after, block, figure);
+    let _ = tick(&mut after, block, figure);
     if shares_right(&before, &after, figure) {
         Verdict::Held
     } else {

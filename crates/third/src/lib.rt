@@ -24,16 +24,9 @@ pub fn third_demand(history: &[u8], ports: u32, block: &[u8], less: u32, more: u
     let reached = run(history, ports);
     let small = tick_from(reached, block, less);
     let great = tick_from(reached, block, more);
-    if !sound(small, less) {
-        return Verdict::Broken;
+    if sound(small, less) & sound(great, more) & none_lost(small.answer, great.answer) {
+        Verdict::Held
+    } else {
+        Verdict::Broken
     }
-    if !sound(great, more) {
-        return Verdict::Broken;
-    }
-    let first = small.answer;
-    let second = great.answer;
-    if !none_lost(first, second) {
-        return Verdict::Broken;
-    }
-    Verdict::Held
 }

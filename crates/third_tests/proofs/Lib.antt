@@ -1,2 +1,3 @@
 pub mod Asks
 pub mod Means
+pub mod Ranges

@@ -7,13 +7,7 @@ fn flags_clear(block: &[u8], ports: usize) -> bool
     requires { (ports ≤ 48) × (length block.now ≡ 14 * ports) }
     ensures { result ≡ flags_clear ports block.now }
 {
-    let mut clear = true;
-    let mut p = 0;
-    while p < ports {
-        clear = clear & ((block[14 * p + 12] == 0) & (block[14 * p + 13] < 64));
-        p += 1;
-    }
-    clear
+    (0..ports).all(|p| (block[14 * p + 12] == 0) & (block[14 * p + 13] < 64))
 }
 
 // Document 01: "1 to 48 Type 2 ports"; "supply figure over 60,000" is refused; "14 bytes a port".

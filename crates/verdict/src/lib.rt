@@ -1,7 +1,7 @@
 // What the program of a demand answers.
 #![tactic(auto)]
 
-#[derive(Clone, Copy)]
+#[derive(Clone, Copy, PartialEq, Eq)]
 pub enum Verdict {
     // It was asked, and it holds.
     Held,
