@@ -25,8 +25,8 @@
  *   - Every lent cell and byte has been written once before, those for a cold start too: a static or zeroed table has been.
  *   - Between two calls the table is in memory that the caller trusts. A flipped bit, or a cell that the caller wrote, may make
  *     another table that is well-made: then the core moves that table by the rules, and 13 is not given.
- *   - The stack: no theorem bounds it. Measured (tools/stack), with everything that is called but memcpy: on x86-64 a tick needs 928
- *     bytes, request, status and control at most 208, the others at most 184; on aarch64 736, 96 and 48.
+ *   - The stack: no theorem bounds it. Measured (tools/stack), with everything that is called but memcpy: on x86-64 a tick needs 1072
+ *     bytes, request, status and control at most 192, the others at most 184; on aarch64 880, 80 and 48.
  */
 #ifndef IPAQSUNI_H
 #define IPAQSUNI_H

@@ -67,6 +67,7 @@ def built(name):
         return None
     modules = {json.loads(line)[0].removeprefix("part/") for line in (at / "toolchain/checked.json").read_text().splitlines()}
     logic = re.search(r"^logic (\w{16})", (at / "format").read_text(), re.M)
-    # (functions that call one another have a module of their own too, `+a+b`)
+    # (functions that call one another have a module of their own too, `+a+b`, and so have closures, below `fn`, and the laws of an impl)
+    modules = {module for module in modules if not re.search(r"\.(?:fn|TheImpl)\.", module)}
     functions = sum(bool(re.fullmatch(rf"Rattle-{name}-proofs\.(?:[^.+][^.]*\.)*[^.+][^.]*\.Met", module)) for module in modules)
     return functions, logic and logic[1]
