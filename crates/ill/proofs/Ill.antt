@@ -34,7 +34,7 @@ pub ill_parts : (l : List ℕ) → ill_cells l ≡ not (head_cells l && every (c
 ill_parts l = ill_is l ∙ ap not (well_cells_lem l)
 
 -- one of two is not there
-either_is : (a b : Bool) → (not a || not b) ≡ not (a && b)
+pub either_is : (a b : Bool) → (not a || not b) ≡ not (a && b)
 either_is true b = refl
 either_is false b = refl
 

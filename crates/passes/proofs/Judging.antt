@@ -1,12 +1,12 @@
 -- The refusals of a tick, judged one after the other: the first is given, or the supply that the figure is.
 -- Assumes nothing.
-use Prim.Native.Nat.{ℕ, ◌*◌}
+use Prim.Native.Nat.{ℕ, ◌*◌, ◌≤◌}
 use mathlib.Core.Path.{◌≡◌, refl, sym, ◌∙◌, ap}
 use mathlib.Core.Bool.{Bool, true, false, cond, not, not-not}
 use mathlib.Core.List.{List, [], ◌∷◌}
 use lib.Dec.{eqb, ltb}
 use lib.ListN.{length, replicate}
-use borrow.Author.Tests.{eqb-true}
+use borrow.Author.Tests.{eqb-true, ltb-false}
 use Rattle.std.specs.Prelude.{Result, Ok, Err}
 use Rattle.sizes.specs.Sizes.{most_ports, most_supply, sample_bytes}
 use Rattle.sizes.specs.Refused.{refused}
@@ -46,7 +46,7 @@ module _ (l block : List ℕ) (figure : ℕ) where
   told (Ok s) = answered (table_after t (moved_at t block) s)
   told (Err r) = record { table = t; answer = Err r }
 
-  abbrev value : Told (Result Closed Refusal)
+  abbrev pub value : Told (Result Closed Refusal)
   value = told (Ok (tenths figure))
 
   flags_are : flags_reserved t block ≡ not (flags_fine (count_cell l) block)
@@ -78,18 +78,18 @@ module _ (l block : List ℕ) (figure : ℕ) where
       go false q = ill_cells_lem l rest (λ j. refuse j t) value q
 
   -- what it means that nothing is refused
-  pub clear : (s : Power) → outcome ≡ Ok s → (well_cells l ≡ true) × (length block ≡ sample_bytes * count_cell l) × (flags_fine (count_cell l) block ≡ true)
+  pub clear : (s : Power) → outcome ≡ Ok s → (well_cells l ≡ true) × (length block ≡ sample_bytes * count_cell l) × (figure ≤ most_supply) × (flags_fine (count_cell l) block ≡ true)
   unfolding checked_on
-  clear s e = go (well_cells l) (eqb (length block) (sample_bytes * count_cell l)) (ltb most_supply figure) (flags_fine (count_cell l) block) refl refl refl e
+  clear s e = go (well_cells l) (eqb (length block) (sample_bytes * count_cell l)) (ltb most_supply figure) (flags_fine (count_cell l) block) refl refl refl refl e
     where
-      go : (w a b c : Bool) → well_cells l ≡ w → eqb (length block) (sample_bytes * count_cell l) ≡ a → flags_fine (count_cell l) block ≡ c
+      go : (w a b c : Bool) → well_cells l ≡ w → eqb (length block) (sample_bytes * count_cell l) ≡ a → ltb most_supply figure ≡ b → flags_fine (count_cell l) block ≡ c
           → by w a b c (tenths figure) ≡ Ok s
-          → (well_cells l ≡ true) × (length block ≡ sample_bytes * count_cell l) × (flags_fine (count_cell l) block ≡ true)
-      go true true true c p q f z = absurd (cc)
-      go true true false true p q f z = (p, eqb-true _ _ q, f)
-      go true true false false p q f z = absurd (cc)
-      go true false b c p q f z = absurd (cc)
-      go false a b c p q f z = absurd (cc)
+          → (well_cells l ≡ true) × (length block ≡ sample_bytes * count_cell l) × (figure ≤ most_supply) × (flags_fine (count_cell l) block ≡ true)
+      go true true true c p q r f z = absurd (cc)
+      go true true false true p q r f z = (p, eqb-true _ _ q, ltb-false most_supply figure r, f)
+      go true true false false p q r f z = absurd (cc)
+      go true false b c p q r f z = absurd (cc)
+      go false a b c p q r f z = absurd (cc)
 
   pub ready : (lane : List ℕ) (s : Power) → outcome ≡ Ok s → lane ≡ flag_lane (count_cell l) block (replicate most_ports 0) → Ready l block lane
-  ready lane s e f = let h = clear s e in record { well = h.0; sized = h.1; fine = h.2; flags = f }
+  ready lane s e f = let h = clear s e in record { well = h.0; sized = h.1; fine = h.3; flags = f }

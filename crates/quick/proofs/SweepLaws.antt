@@ -202,13 +202,13 @@ module _ (lane l : List ℕ) where
       writes_other (count_fields (looked_at (get_or lane n 0) l n).counts) 5 n (looked_cells n lane l) (8 + most_ports * g + p) (λ f e m o. omega arith)
       ∙ looked_cell n p g (omega arith) k
 
-  looked_turn : (n : ℕ) (flags : ℕ) → n < most_ports → looked_at flags (looked_cells n lane l) n ≡ looked_at flags l n
+  pub looked_turn : (n : ℕ) (flags : ℕ) → n < most_ports → looked_at flags (looked_cells n lane l) n ≡ looked_at flags l n
   unfolding looked_at counts_of
   looked_turn n flags h =
       let at : (g : ℕ) → get_or (looked_cells n lane l) (8 + most_ports * g + n) 0 ≡ get_or l (8 + most_ports * g + n) 0 = λ g. looked_cell n n g (le_refl n) h in
       simp (at 0, at 1, at 2, at 5, at 6, at 7, at 8, at 9, at 10, at 11)
 
-  looked_more : (n : ℕ) (m k : List ℕ) → m ≡ looked_cells n lane l → n < most_ports → k ≡ with_count_cells n (looked_at (get_or lane n 0) m n).counts m → k ≡ looked_cells (n + 1) lane l
+  pub looked_more : (n : ℕ) (m k : List ℕ) → m ≡ looked_cells n lane l → n < most_ports → k ≡ with_count_cells n (looked_at (get_or lane n 0) m n).counts m → k ≡ looked_cells (n + 1) lane l
   unfolding looked_cells
   looked_more n m k e h f =
       f ∙ ap (λ (x : List ℕ). with_count_cells n (looked_at (get_or lane n 0) x n).counts x) e
@@ -216,24 +216,24 @@ module _ (lane l : List ℕ) where
       ∙ ap (λ (j : ℕ). looked_cells j lane l) (sym (add-one n))
 
 -- a mark is all bits or none
-abbrev all_bits : Bool → ℕ
+abbrev pub all_bits : Bool → ℕ
 all_bits t = cond t 65535 0
 
 marked_bits : (t : Bool) → cond t 0 65535 ≡ all_bits (not (eqb (cond t 0 65535) 0))
 marked_bits true = refl
 marked_bits false = refl
 
-mark_bits : (flags : ℕ) (l : List ℕ) (p : ℕ) → (looked_at flags l p).mark ≡ all_bits (is_marked flags l p)
+pub mark_bits : (flags : ℕ) (l : List ℕ) (p : ℕ) → (looked_at flags l p).mark ≡ all_bits (is_marked flags l p)
 unfolding is_marked looked_at looked
 mark_bits flags l p = marked_bits (moves (get_or l (8 + p) 0) (get_or l (56 + p) 0 % 4) (get_or l (104 + p) 0) (signs_by flags) (counts_of l p))
 
-bits_joined : (t w : Bool) → max (all_bits t) (all_bits w) ≡ all_bits (t || w)
+pub bits_joined : (t w : Bool) → max (all_bits t) (all_bits w) ≡ all_bits (t || w)
 bits_joined true true = refl
 bits_joined true false = refl
 bits_joined false true = refl
 bits_joined false false = refl
 
-bits_some : (t : Bool) → not (eqb (all_bits t) 0) ≡ t
+pub bits_some : (t : Bool) → not (eqb (all_bits t) 0) ≡ t
 bits_some true = refl
 bits_some false = refl
 

@@ -30,7 +30,7 @@ module _ (f : Fields) where
 
 module _ (f : Fields) (room : List ℕ) where
   -- what is left follows from the answer
-  leaves : (w : Result ℕ Refusal) (after : List ℕ) → w ≡ written_of f room → after ≡ left w f room → Answers f room w after
+  pub leaves : (w : Result ℕ Refusal) (after : List ℕ) → w ≡ written_of f room → after ≡ left w f room → Answers f room w after
   unfolding room_after
   leaves w after e d = (e, d ∙ ap (λ (x : Result ℕ Refusal). left x f room) e)
 
