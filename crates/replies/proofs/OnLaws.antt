@@ -84,6 +84,14 @@ module _ {A : Type 0} (l : List ℕ) (n : ℕ) (rs : List (ℕ × Bool)) (value 
   abbrev call : Told (Result A Refusal)
   call = cond (is_table l) (ladder ((13, ill_made (table_of l)) ∷ (2, leb (table_of l).count n) ∷ rs) (λ k. refuse k (table_of l)) value) (refuse 13 (table_of l))
 
+  pub call_ill : well_cells l ≡ false → call ≡ refuse 13 (table_of l)
+  unfolding table_of
+  call_ill e = ill_cells_lem l ((2, leb (table_of l).count n) ∷ rs) (λ k. refuse k (table_of l)) value e
+
+  pub call_no_port : well_cells l ≡ true → leb (count_cell l) n ≡ true → call ≡ refuse 2 (table_of l)
+  unfolding table_of
+  call_no_port e h = well_goes l ((2, leb (table_of l).count n) ∷ rs) (λ k. refuse k (table_of l)) value e ∙ simp h
+
   pub call_refuses : (r : Refusal) → port_named l n ≡ Err r → (Err r ≡ call.answer) × (l ≡ cells_told call l)
   unfolding port_named table_of
   call_refuses r e = go (well_cells l) refl (leb (count_cell l) n) refl
@@ -92,8 +100,8 @@ module _ {A : Type 0} (l : List ℕ) (n : ℕ) (rs : List (ℕ × Bool)) (value 
       with_number k q s = let told = told_refused call (table_of l) l k q in (ap (λ (x : Refusal). Err x) (sym s) ∙ told.0, told.1)
 
       go : (a : Bool) → well_cells l ≡ a → (b : Bool) → leb (count_cell l) n ≡ b → (Err r ≡ call.answer) × (l ≡ cells_told call l)
-      go false f b g = with_number 13 (ill_cells_lem l ((2, leb (table_of l).count n) ∷ rs) (λ k. refuse k (table_of l)) value f) (let h = simp f at e in cc)
-      go true f true g = with_number 2 (well_goes l ((2, leb (table_of l).count n) ∷ rs) (λ k. refuse k (table_of l)) value f ∙ simp g) (let h = simp (f, g) at e in cc)
+      go false f b g = with_number 13 (call_ill f) (let h = simp f at e in cc)
+      go true f true g = with_number 2 (call_no_port f g) (let h = simp (f, g) at e in cc)
       go true f false g = let h = simp (f, g) at e in cc
 
   pub call_goes : well_cells l ≡ true → n < count_cell l → call ≡ ladder rs (λ k. refuse k (table_of l)) value
