@@ -22,10 +22,13 @@ pub enum Step {
 fn step_at(pdu: &[u8], at: usize) -> Step
     ensures { result ≡ step_of pdu.now at }
 {
-    let rest = match pdu.get(at..) {
-        None | Some([]) => return Step::End,
-        Some([_]) => return Step::Cut,
-        Some(rest) => rest,
+    // A test and no `get(at..)`: after it the compiler knows each length below, and the walk tests it once.
+    if pdu.len() <= at {
+        return Step::End;
+    }
+    let rest = match &pdu[at..] {
+        rest @ [_, _, ..] => rest,
+        _ => return Step::Cut,
     };
     if type_at(pdu, at) == 0 {
         return Step::End;
