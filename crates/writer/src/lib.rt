@@ -23,13 +23,14 @@ fn head_bytes(fields: Fields, body: u8) -> [u8; 9]
     ensures { result ≡ head_bytes fields body }
 {
     let [high, low] = (512 * 127 + u16::from(body)).to_be_bytes();
+    let [oui_1, oui_2, oui_3, subtype] = *b"\x00\x12\x0f\x02";
     [
         high,
         low,
-        0x00,
-        0x12,
-        0x0f,
-        0x02,
+        oui_1,
+        oui_2,
+        oui_3,
+        subtype,
         fields.support,
         fields.pair,
         fields.class,
