@@ -11,8 +11,7 @@ use lib.Dec.{eqb}
 use lib.ListN.{length, get_or, take, drop}
 use lib.Seq.{drop-cons, drop-length}
 use borrow.Author.Tests.{eq-eqb, ne_eqb}
-use Rattle.std.specs.List.{count_by, prefix_len}
-use Rattle.std.proofs.lemmas.List.Sums.{sum_by-cons}
+use Rattle.std.specs.List.{prefix_len}
 use Rattle.parts.specs.Words.{before, words, word_at}
 
 -- what the loop over a line passes, byte by byte
@@ -54,16 +53,6 @@ unfolding before
 later_before b [] k = refl
 later_before b (w ∷ ws) k = refl
 
--- one word more than the spaces
-pub count_words : (l : List ℕ) → length (words l) ≡ count_by (λ b. eqb b 32) l + 1
-unfolding words
-count_words [] = refl
-count_words (b ∷ l) = rw (sum_by-cons (λ x. cond (eqb x 32) 1 0) b l) (go (eqb b 32) (count_words l))
-  where
-    go : (t : Bool) → length (words l) ≡ count_by (λ b. eqb b 32) l + 1 → length (cond t ([] ∷ words l) (before b (words l))) ≡ cond t 1 0 + count_by (λ b. eqb b 32) l + 1
-    go true e = omega arith
-    go false e = count_before b (words l) (some_word l) ∙ omega arith
-
 -- the first word ends at the first space
 pub first_word : (l : List ℕ) → word_at l 0 ≡ take (prefix_len (λ b. not (eqb b 32)) l) l
 unfolding word_at words
@@ -75,7 +64,14 @@ first_word (b ∷ l) = go (eqb b 32) (first_word l)
     go false e = first_before b (words l) ∙ ap (λ (w : List ℕ). b ∷ w) e ∙ ap (λ (k : ℕ). take k (b ∷ l)) (let n : suc (prefix_len (λ c. not (eqb c 32)) l) ≡ 1 + prefix_len (λ c. not (eqb c 32)) l = omega arith in n)
 
 module _ (l : List ℕ) (i : ℕ) (h : i < length l) where
-  -- one more byte passed, as the loop seeks the word after k spaces
+  -- one more byte passed, as the loop counts the words
+  pub more_words : get_or l i 0 ≡ 32 → length (words (drop i l)) ≡ 1 + length (words (drop (i + 1) l))
+  more_words e = ap length (at_space l i h e) ∙ omega arith
+
+  pub same_words : (get_or l i 0 ≡ 32 → ⊥) → length (words (drop i l)) ≡ length (words (drop (i + 1) l))
+  same_words n = ap length (at_other l i h n) ∙ count_before (get_or l i 0) (words (drop (i + 1) l)) (some_word (drop (i + 1) l))
+
+  -- as it seeks the word after k spaces
   pub seek_space : (k : ℕ) → (k ≡ 0 → ⊥) → get_or l i 0 ≡ 32 → word_at (drop i l) k ≡ word_at (drop (i + 1) l) (k - 1)
   unfolding word_at
   seek_space zero z e = absurd (z refl)

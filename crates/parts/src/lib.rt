@@ -20,7 +20,13 @@ pub fn front(bytes: &[u8], n: usize) -> &[u8]
 pub fn count(line: &[u8]) -> usize
     ensures { result ≡ length (words line.now) }
 {
-    line.iter().filter(|b| **b == b' ').count() + 1
+    let mut n = 1;
+    for b in line {
+        if *b == b' ' {
+            n += 1;
+        }
+    }
+    n
 }
 
 // Where the word begins that stands after so many spaces.
@@ -110,13 +116,14 @@ fn all_hex(word: &[u8]) -> bool
     word.iter().all(|b| b.is_ascii_hexdigit())
 }
 
+// Both are hex digits. With a value beside `None` there is no branch, and `fill` takes many pairs at a time.
 #[tactic(auto, using(crate::proofs::Hex::digit_is, crate::proofs::Hex::hex_small))]
 fn pair(high: u8, low: u8) -> u8
     requires high_value { is_hex high ≡ true }
     requires low_value { is_hex low ≡ true }
     ensures { result ≡ pair_of high low }
 {
-    16 * nibble(high).unwrap() + nibble(low).unwrap()
+    16 * nibble(high).unwrap_or(0) + nibble(low).unwrap_or(0)
 }
 
 fn fill(word: &[u8], room: &mut [u8])
