@@ -56,10 +56,16 @@ impl<'a> Page<'a> {
         ensures same_room { self.new.room.ghost_name ≡ self.old.room.ghost_name }
         ensures put { (self.new.at ≡ past self.old.room.now self.old.at (hex_of bytes.now)) × (self.new.room.now ≡ placed self.old.room.now self.old.at (hex_of bytes.now)) }
     {
-        for b in bytes {
-            self.put(glyph(*b / 16));
-            self.put(glyph(*b % 16));
+        // A page of the loop's own: its place is written back once, and not at each digit.
+        let mut page = Page {
+            room: &mut *self.room,
+            at: self.at,
+        };
+        for byte in bytes {
+            page.put(glyph(*byte / 16));
+            page.put(glyph(*byte % 16));
         }
+        self.at = page.at;
     }
 
     pub fn end(&mut self)

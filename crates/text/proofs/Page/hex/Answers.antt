@@ -11,17 +11,17 @@ two : (bytes : List ℕ) (i g h : ℕ) → g ≡ glyph_of (get_or bytes i 0 / 16
     → (hex_of (take i bytes) ++ (g ∷ [])) ++ (h ∷ []) ≡ hex_of (take (i + 1) bytes)
 two bytes i g h e f n = append_assoc (hex_of (take i bytes)) (g ∷ []) (h ∷ []) ∙ simp (e, f) (sym (ap hex_of n ∙ hex_more (take i bytes) (get_or bytes i 0)))
 
-pub loop-b-init : goal.loop-b-init
+pub loop-byte-init : goal.loop-byte-init
 unfolding hex_of
-loop-b-init c = let p = c.args.self.now in (refl, put_none p.room.now p.at)
+loop-byte-init c = let p = c.args.self.now in (refl, put_none p.room.now p.at)
 
-pub loop-b-preserved : goal.loop-b-preserved
-loop-b-preserved c =
-    let l = c.loop-b in
+pub loop-byte-preserved : goal.loop-byte-preserved
+loop-byte-preserved c =
+    let l = c.loop-byte in
     let bytes = c.args.bytes.now in
-    let i = l.b-index in
+    let i = l.byte-index in
     let p = put_more _ _ (hex_of (take i bytes)) (c.glyph.result ∷ []) _ _ _ _ l.invariant.1 c.put.ensures.put in
-    let q = put_more _ _ (hex_of (take i bytes) ++ (c.glyph.result ∷ [])) (c.glyph-in-loop-b.result ∷ []) _ _ _ _ p c.put-in-loop-b.ensures.put in (
-      c.put-in-loop-b.ensures.same_room ∙ c.put.ensures.same_room ∙ l.invariant.0,
-      rw (two bytes i _ _ c.glyph.ensures c.glyph-in-loop-b.ensures (take_next bytes i (omega arith))) at q,
+    let q = put_more _ _ (hex_of (take i bytes) ++ (c.glyph.result ∷ [])) (c.glyph-in-loop-byte.result ∷ []) _ _ _ _ p c.put-in-loop-byte.ensures.put in (
+      c.put-in-loop-byte.ensures.same_room ∙ c.put.ensures.same_room ∙ l.invariant.0,
+      rw (two bytes i _ _ c.glyph.ensures c.glyph-in-loop-byte.ensures (take_next bytes i (omega arith))) at q,
     )

@@ -4,5 +4,5 @@ use Rattle.parts.specs.Hex.{hex_of}
 use Rattle.text.proofs.Room.{Put}
 use Rattle.text.proofs.Page.hex.Given as goal
 
-abbrev pub invariant-loop-b : goal.invariant-loop-b
-invariant-loop-b l = (l.self.room.ghost_name ≡ l.fn.self.room.ghost_name) × Put l.fn.self.room.now l.fn.self.at (hex_of (take l.b-index l.bytes)) l.self.at l.self.room.now
+abbrev pub invariant-loop-byte : goal.invariant-loop-byte
+invariant-loop-byte l = (l.page.room.ghost_name ≡ l.initial.page.room.ghost_name) × Put l.fn.self.room.now l.fn.self.at (hex_of (take l.byte-index l.bytes)) l.page.at l.page.room.now
