@@ -1,7 +1,7 @@
 // Lines out of standard input, through a buffer.
 use std::io::{Read, Stdin};
 
-// Bytes that a line is read for: every loop has to end, and no line comes near so many.
+// Fillings of the buffer that a line takes: every loop has to end, and no line comes near so many.
 const BUDGET: u64 = 1_099_511_627_776;
 
 // What is read and not yet taken: the bytes of the buffer from `at` to `end`.
@@ -18,35 +18,32 @@ impl<'a> Source<'a> {
         self.end <= self.at
     }
 
-    // The buffer is read into anew once it is all taken. There is none where the input has ended, or cannot be read any more.
-    fn byte(&mut self) -> Option<u8> {
-        if self.is_taken() {
-            self.at = 0;
-            self.end = self.stdin.read(self.buffer).unwrap_or(0);
-        }
-        if self.end <= self.at || self.buffer.len() <= self.at {
-            return None;
-        }
-        let b = self.buffer[self.at];
-        self.at += 1;
-        Some(b)
-    }
-
     // How many bytes of the next line its room holds: as many as there is room for. There is none where the input ended before a byte of it;
     // a last line without a newline counts.
     pub fn line(&mut self, room: &mut [u8]) -> Option<usize> {
         let mut length = 0;
         for _ in 0..BUDGET {
-            match self.byte() {
-                Some(b'\n') => return Some(length),
-                Some(b) => {
-                    if length < room.len() {
-                        room[length] = b;
-                        length += 1;
-                    }
-                }
-                None => break,
+            // The buffer is read into anew once it is all taken. If it is all taken still, the input has ended, or cannot be read any more.
+            if self.is_taken() {
+                self.at = 0;
+                self.end = self.stdin.read(self.buffer).unwrap_or(0);
             }
+            let (at, end) = (self.at, self.end);
+            if end <= at || self.buffer.len() < end {
+                break;
+            }
+            let rest = &self.buffer[at..end];
+            for (i, b) in rest.iter().enumerate() {
+                if *b == b'\n' {
+                    self.at = at + i + 1;
+                    return Some(length);
+                }
+                if length < room.len() {
+                    room[length] = *b;
+                    length += 1;
+                }
+            }
+            self.at = end;
         }
         if length == 0 { None } else { Some(length) }
     }
