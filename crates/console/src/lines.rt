@@ -1,8 +1,8 @@
 // Lines out of standard input, through a buffer.
 use std::io::{Read, Stdin};
 
-// Fillings of the buffer that a line takes: every loop has to end, and no line comes near so many.
-const BUDGET: u64 = 1_099_511_627_776;
+// Bytes that a line is read for: every loop has to end, and no line comes near so many.
+const BUDGET: usize = 1_099_511_627_776;
 
 // What is read and not yet taken: the bytes of the buffer from `at` to `end`.
 #[derive(Drop)]
@@ -22,6 +22,7 @@ impl<'a> Source<'a> {
     // a last line without a newline counts.
     pub fn line(&mut self, room: &mut [u8]) -> Option<usize> {
         let mut length = 0;
+        let mut left = BUDGET;
         for _ in 0..BUDGET {
             // The buffer is read into anew once it is all taken. If it is all taken still, the input has ended, or cannot be read any more.
             if self.is_taken() {
@@ -32,6 +33,7 @@ impl<'a> Source<'a> {
             if end <= at || self.buffer.len() < end {
                 break;
             }
+            let end = end.min(at.saturating_add(left));
             let rest = &self.buffer[at..end];
             for (i, b) in rest.iter().enumerate() {
                 if *b == b'\n' {
@@ -44,6 +46,10 @@ impl<'a> Source<'a> {
                 }
             }
             self.at = end;
+            left = left.saturating_sub(end.saturating_sub(at));
+            if left == 0 {
+                break;
+            }
         }
         if length == 0 { None } else { Some(length) }
     }
