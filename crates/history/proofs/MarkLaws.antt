@@ -22,8 +22,7 @@ use Rattle.history.specs.Lent.{ran_on, cells_reached}
 use Rattle.history.proofs.LentLaws.{cells_reached_lem, tick_reached}
 use Rattle.history.proofs.States.{idle_cell}
 use Rattle.marks.specs.Mark.{noted_mark, mark_of}
-use Rattle.marks.specs.declared.Mark.TheVariants.{InIdle, Nothing, Both}
-use Rattle.marks.proofs.Marked.{note_mark}
+use Rattle.marks.proofs.Mark.{note_mark}
 use Rattle.history.specs.Marks.{noted_all, block_of, marks_reached}
 
 never : (x : Shown) → x ≡ nothing → x ≡ both → ⊥
@@ -48,21 +47,21 @@ module _ (n : ℕ) (a : 1 ≤ n) (b : n ≤ 48) where
   unfolding cold_table port_at
   cold_mark p l = ap (λ (t : Table). is_idle (port_at t p).state) (cold_table_lem n a b) ∙ ap (λ (x : Port). is_idle x.state) (get_or-replicate 48 p cold_port no_port l)
 
-  pub marks_reached_lem : (h : List Call) (p : ℕ) → p < 48 → get_or (marks_reached n h) p InIdle ≡ mark_of (is_idle (port_at (reached n h) p).state) (shown n p h)
+  pub marks_reached_lem : (h : List Call) (p : ℕ) → p < 48 → get_or (marks_reached n h) p 0 ≡ mark_of (is_idle (port_at (reached n h) p).state) (shown n p h)
   unfolding marks_reached reached shown noted_all
-  marks_reached_lem [] p l = get_or-replicate 48 p Nothing InIdle l ∙ ap (λ (i : Bool). mark_of i nothing) (sym (cold_mark p l))
+  marks_reached_lem [] p l = get_or-replicate 48 p 1 0 l ∙ ap (λ (i : Bool). mark_of i nothing) (sym (cold_mark p l))
   marks_reached_lem (c ∷ h) p l =
       let was = is_idle (port_at (reached n h) p).state in
       let is = is_idle (port_at (after (reached n h) c) p).state in
-      get_d_tabulate 48 _ InIdle p l
+      get_d_tabulate 48 _ 0 p l
       ∙ ap (noted_mark (get_or (cells_reached n (c ∷ h)) (8 + p) 0) (ran_on (cells_reached n h) c) (block_of c) p) (marks_reached_lem h p l)
       ∙ note_mark was is (ran_on (cells_reached n h) c) (get_or (cells_reached n (c ∷ h)) (8 + p) 0) (block_of c) p (shown n p h) (quiet h p) (sym (idle_cell (reached n (c ∷ h)) (cells_reached n (c ∷ h)) (cells_reached_lem n a b (c ∷ h)) p l))
       ∙ ap (λ (x : Shown). mark_of is (cond is nothing x)) (sym (adds_by h p c (shown n p h)))
 
   -- who has shown both is marked so
-  pub both_mark : (h : List Call) (p : ℕ) → p < 48 → shown n p h ≡ both → get_or (marks_reached n h) p InIdle ≡ Both
+  pub both_mark : (h : List Call) (p : ℕ) → p < 48 → shown n p h ≡ both → get_or (marks_reached n h) p 0 ≡ 3
   both_mark h p l e = marks_reached_lem h p l ∙ go (is_idle (port_at (reached n h) p).state) refl
     where
-      go : (i : Bool) → is_idle (port_at (reached n h) p).state ≡ i → mark_of i (shown n p h) ≡ Both
+      go : (i : Bool) → is_idle (port_at (reached n h) p).state ≡ i → mark_of i (shown n p h) ≡ 3
       go true q = absurd (never (shown n p h) (quiet h p q) e)
       go false q = ap (mark_of false) e

@@ -15,8 +15,6 @@ use Rattle.statements.specs.History.{Call, control, status, requested, ticked}
 use Rattle.history.specs.Decode.{of_words, number_at, call_of, block_long, first_call, calls_from, calls_of}
 use Rattle.history.specs.Lent.{cells_after, ran_on, cells_started, cells_reached}
 use Rattle.marks.specs.Mark.{noted_mark}
-use Rattle.marks.specs.declared.Mark.{Mark}
-use Rattle.marks.specs.declared.Mark.TheVariants.{Nothing}
 use Rattle.history.specs.Marks.{noted_all, block_of, marks_reached}
 
 -- ---- numbers further on
@@ -45,11 +43,11 @@ record_none zero b h l = refl
 record_none (suc most) b h l = simp (lt-leb 11 (length b) l)
 
 -- the marks, by what is known of the call
-pub noted_as : (l block : List ℕ) (marks x : List Mark) (a b : Bool) → x ≡ noted_all l a block marks → a ≡ b → x ≡ noted_all l b block marks
+pub noted_as : (l block marks x : List ℕ) (a b : Bool) → x ≡ noted_all l a block marks → a ≡ b → x ≡ noted_all l b block marks
 noted_as l block marks x a b e f = e ∙ ap (λ (t : Bool). noted_all l t block marks) f
 
 -- a call that is no tick brings no bytes that count
-block_counts : (l u : List ℕ) (marks : List Mark) (block : List ℕ) (kind port number : ℕ)
+block_counts : (l u marks block : List ℕ) (kind port number : ℕ)
     → noted_all u (ran_on l (call_of kind port number block)) block marks
     ≡ noted_all u (ran_on l (call_of kind port number block)) (block_of (call_of kind port number block)) marks
 unfolding noted_all noted_mark ran_on call_of
@@ -61,7 +59,7 @@ block_counts l u marks block kind port number =
 
 -- ---- the bytes below `at` are run
 
-pub record Decoded (n : ℕ) (history : List ℕ) (at : ℕ) (cells : List ℕ) (marks : List Mark) : Type 0 where
+pub record Decoded (n : ℕ) (history : List ℕ) (at : ℕ) (cells marks : List ℕ) : Type 0 where
   pub calls : List Call
   pub cells_are : cells ≡ cells_reached n calls
   pub marks_are : marks ≡ marks_reached n calls
@@ -70,12 +68,12 @@ pub record Decoded (n : ℕ) (history : List ℕ) (at : ℕ) (cells : List ℕ) 
   pub rest : calls_from most (drop at history) calls ≡ calls_of history
 
 module _ (n : ℕ) (history : List ℕ) where
-  pub decoded_cold : (cells : List ℕ) (marks : List Mark) → cells ≡ cells_started n → marks ≡ replicate 48 Nothing → Decoded n history 0 cells marks
+  pub decoded_cold : (cells marks : List ℕ) → cells ≡ cells_started n → marks ≡ replicate 48 1 → Decoded n history 0 cells marks
   unfolding calls_of cells_reached marks_reached
   decoded_cold cells marks e f =
       record { calls = []; cells_are = e; marks_are = f; most = length history; enough = omega arith; rest = refl }
 
-  module _ (at : ℕ) (cells : List ℕ) (marks : List Mark) (d : Decoded n history at cells marks) where
+  module _ (at : ℕ) (cells marks : List ℕ) (d : Decoded n history at cells marks) where
     pub decoded_all : length history - at < 11 → (cells ≡ cells_reached n (calls_of history)) × (marks ≡ marks_reached n (calls_of history))
     decoded_all l =
         let e : d.calls ≡ calls_of history = sym (record_none d.most (drop at history) d.calls (omega (arith, length-drop at history))) ∙ d.rest in
@@ -112,7 +110,7 @@ module _ (n : ℕ) (history : List ℕ) where
           ap₂ (λ (k x : ℕ). call_of k x (number_at b 5) (take (block_long b) (drop 11 b))) (get_or-drop at history 0 0 ∙ ap (λ (j : ℕ). get_or history j 0) q) (number_drop at history 1 ∙ sym p)
           ∙ ap₂ (call_of (get_or history at 0) port) (number_drop at history 5 ∙ sym v) (ap₂ (λ (k : ℕ) (l : List ℕ). take k l) long_is (drop-drop 11 at history))
 
-      pub decoded_more : (then : List ℕ) (thenMarks : List Mark) → then ≡ cells_after cells made → thenMarks ≡ noted_all then (ran_on cells made) block marks → Decoded n history end then thenMarks
+      pub decoded_more : (then thenMarks : List ℕ) → then ≡ cells_after cells made → thenMarks ≡ noted_all then (ran_on cells made) block marks → Decoded n history end then thenMarks
       unfolding cells_reached marks_reached b
       decoded_more then thenMarks f g = go d.most d.enough d.rest
         where

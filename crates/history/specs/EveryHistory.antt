@@ -10,7 +10,6 @@ use Rattle.statements.specs.History.{Call, reached, shown}
 use Rattle.history.specs.Decode.{calls_of}
 use Rattle.history.specs.Lent.{cells_reached}
 use Rattle.marks.specs.Mark.{mark_of}
-use Rattle.marks.specs.declared.Mark.TheVariants.{InIdle}
 use Rattle.history.specs.Marks.{marks_reached}
 use Rattle.history.specs.Spelled.{Bytes}
 
@@ -28,7 +27,7 @@ pub record Reaching (n : ℕ) (h : List Call) : Type 0 where
   pub are_bytes : Bytes bytes
   pub same : Same n (calls_of bytes) h
   pub cells : Are (reached n h) (cells_reached n (calls_of bytes))
-  pub marks : (p : ℕ) → p < 48 → get_or (marks_reached n (calls_of bytes)) p InIdle ≡ mark_of (is_idle (port_at (reached n h) p).state) (shown n p h)
+  pub marks : (p : ℕ) → p < 48 → get_or (marks_reached n (calls_of bytes)) p 0 ≡ mark_of (is_idle (port_at (reached n h) p).state) (shown n p h)
 
 -- for every list of calls there are bytes that reach the same table with the same things shown: nothing is asked of the calls
 abbrev pub EveryHistoryReached : Type 0

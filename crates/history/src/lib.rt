@@ -18,14 +18,14 @@ use ipaqsuni::tables::{
     ipaqsuni_cold_start, ipaqsuni_read_status, ipaqsuni_request, ipaqsuni_tick,
     ipaqsuni_write_control,
 };
-use marks::Mark;
+use marks::NOTHING;
 use marks::bytes::word_at;
 
 // The table that calls reached, and each port's mark.
 #[derive(Clone, Copy)]
 pub struct Reached {
     pub cells: [u16; 728],
-    pub shown: [Mark; 48],
+    pub shown: [u8; 48],
 }
 
 // Kept a number with masks beside it, as the C interface answers: what `ipaqsuni_tick` answers: its number, 0 where the tick is accepted, and what then stands in the two masks.
@@ -98,7 +98,7 @@ pub fn run(history: &[u8], ports: u32) -> Reached
 {
     let mut cells = [0u16; 728];
     ipaqsuni_cold_start(&mut cells, ports);
-    let shown = [Mark::Nothing; 48];
+    let shown = [NOTHING; 48];
     let mut reached = Reached { cells, shown };
     let mut at = 0;
     // Kept a `while`: a record is as long as it says.
@@ -117,7 +117,7 @@ pub fn run(history: &[u8], ports: u32) -> Reached
 #[derive(Clone, Copy)]
 pub struct Tried {
     pub cells: [u16; 728],
-    pub shown: [Mark; 48],
+    pub shown: [u8; 48],
     pub answer: TickAnswer,
 }
 

@@ -13,13 +13,15 @@ ghost use Rattle.marks.specs.Mark.{Words, seen_mark, noted_mark};
 use crate::bytes::word_at;
 
 // A port's mark: it stands in IDLE; or what it has shown since it last did: nothing, a valid signature, or that and later a class.
-#[derive(Clone, Copy, PartialEq, Eq)]
-pub enum Mark {
-    InIdle,
-    Nothing,
-    Signature,
-    Both,
-}
+// Kept numbers: an enum of four would ask more of the callers of `noted`, `history::tick_from` and `third_tests::answers::sound`, which
+// promise their answers for any number here.
+pub const IN_IDLE: u8 = 0;
+
+pub const NOTHING: u8 = 1;
+
+pub const SIGNATURE: u8 = 2;
+
+pub const BOTH: u8 = 3;
 
 // Document 01: "Invalid if V1 or V2 is outside 2,800..10,000 or dV < 1,000. Otherwise open if dI <= 0 or dV >= 500 dI. Otherwise valid if
 // 19 dI <= dV and 2 dV <= 53 dI; else invalid."
@@ -72,39 +74,29 @@ fn gives_class(block: &[u8], at: usize) -> bool
 
 // What a tick's bytes add: a signature, and in a later tick a class.
 #[tactic(auto, unfolding(crate::specs::Mark::seen_mark))]
-fn seen(block: &[u8], p: u8, mark: Mark) -> Mark
+fn seen(block: &[u8], p: u8, mark: u8) -> u8
     ensures { result ≡ seen_mark block.now p mark }
 {
     let at = 14 * p as usize;
-    match mark {
-        Mark::Nothing => {
-            if shows_signature(block, at) {
-                Mark::Signature
-            } else {
-                mark
-            }
-        }
-        Mark::Signature => {
-            if gives_class(block, at) {
-                Mark::Both
-            } else {
-                mark
-            }
-        }
-        Mark::InIdle | Mark::Both => mark,
+    if mark == NOTHING && shows_signature(block, at) {
+        return SIGNATURE;
     }
+    if mark == SIGNATURE && gives_class(block, at) {
+        return BOTH;
+    }
+    mark
 }
 
 // The port's mark after a call that leaves it in this state; the code of IDLE is 1. A sample that was taken in IDLE does not count.
 #[tactic(auto, unfolding(crate::specs::Mark::noted_mark))]
-pub fn noted(state: u16, ticked: bool, block: &[u8], p: u8, mark: Mark) -> Mark
+pub fn noted(state: u16, ticked: bool, block: &[u8], p: u8, mark: u8) -> u8
     ensures { result ≡ noted_mark state ticked block.now p mark }
 {
     if state == 1 {
-        return Mark::InIdle;
+        return IN_IDLE;
     }
-    if mark == Mark::InIdle {
-        return Mark::Nothing;
+    if mark == IN_IDLE {
+        return NOTHING;
     }
     if ticked {
         return seen(block, p, mark);

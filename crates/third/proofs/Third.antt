@@ -33,15 +33,13 @@ use Rattle.statements.proofs.Reached.{reached_well, call_count, cold_table_lem, 
 use Rattle.statements.proofs.Statement2.{statement_2}
 use Rattle.statements.specs.Statement3.{Third}
 use Rattle.statements.proofs.Statement3.{statement_3, closed_has_shown}
-use Rattle.marks.specs.declared.Mark.{Mark}
-use Rattle.marks.specs.declared.Mark.TheVariants.{InIdle}
 use Rattle.history.specs.Lent.{answer_of, cells_after, ran_on, cells_reached}
 use Rattle.history.proofs.LentLaws.{cells_reached_lem, tick_reached}
 use Rattle.history.proofs.MarkLaws.{both_mark}
 use Rattle.history.specs.Marks.{noted_all, marks_reached}
 use Rattle.history.proofs.States.{test_cell}
 use Rattle.history.specs.declared.TickAnswer.{TickAnswer}
-use Rattle.third_tests.specs.Answers.{closed_in, none_lost_in, demands_in, shown_both, all_shown_in, sound_in}
+use Rattle.third_tests.specs.Answers.{closed_in, none_lost_in, demands_in, all_shown_in, sound_in}
 use Rattle.third_tests.specs.Asks.{flags_clear, Asked}
 use Rattle.third_tests.proofs.Means.{sum_says}
 
@@ -123,13 +121,13 @@ module _ (n : ℕ) (h : List Call) (block : List ℕ) (figure : ℕ) (f : Fit n 
   unfolding all_shown_in
   shows = every_of 48 _ (λ p l. go p l (closed_in x p) (eqb (get_or (cells_reached n g) (8 + p) 0) 8) refl refl)
     where
-      go : (p : ℕ) → p < 48 → (c i : Bool) → closed_in x p ≡ c → eqb (get_or (cells_reached n g) (8 + p) 0) 8 ≡ i → ((not c || i) || shown_both (get_or (marks_reached n g) p InIdle)) ≡ true
+      go : (p : ℕ) → p < 48 → (c i : Bool) → closed_in x p ≡ c → eqb (get_or (cells_reached n g) (8 + p) 0) 8 ≡ i → ((not c || i) || eqb (get_or (marks_reached n g) p 0) 3) ≡ true
       go p l false i e q = refl
       go p l true true e q = refl
       go p l true false e q =
           let c : closed_at (reached n g) p ≡ true = sym (closed_is p l) ∙ e in
           let s : shown n p g ≡ both = closed_has_shown n f.one f.most g p c (test_cell (reached n g) (cells_reached n g) are p l ∙ q) in
-          ap shown_both (both_mark n f.one f.most g p l s)
+          eq-eqb _ _ (both_mark n f.one f.most g p l s)
 
   pub is_sound : sound_in (cells_reached n g) (marks_reached n g) x figure ≡ true
   unfolding sound_in
@@ -157,7 +155,7 @@ module _ (n : ℕ) (block : List ℕ) (less more : ℕ) (a : Asked n block less 
       every_of 48 _ (λ p l. implies _ _ (λ e. closed_is n h block more great p l ∙ t.closes_more p (sym (closed_is n h block less small p l) ∙ e)))
 
 -- what the program has in hand after the tick on one figure
-module _ (n : ℕ) (h : List Call) (block : List ℕ) (figure : ℕ) (from : List ℕ) (fromMarks : List Mark) (cells : List ℕ) (marks : List Mark) (x : TickAnswer)
+module _ (n : ℕ) (h : List Call) (block : List ℕ) (figure : ℕ) (from fromMarks cells marks : List ℕ) (x : TickAnswer)
     (e : from ≡ cells_reached n h)
     (m : fromMarks ≡ marks_reached n h)
     (c : cells ≡ cells_after from (ticked block figure))
@@ -179,6 +177,6 @@ module _ (n : ℕ) (h : List Call) (block : List ℕ) (figure : ℕ) (from : Lis
 
   pub sound_in_lem : Fit n block figure → sound_in cells marks x figure ≡ true
   sound_in_lem f =
-      ap₂ (λ (u : List ℕ) (l : List Mark). sound_in u l x figure) cells_in marks_in
+      ap₂ (λ (u l : List ℕ). sound_in u l x figure) cells_in marks_in
       ∙ ap (λ (y : TickAnswer). sound_in (cells_reached n (ticked block figure ∷ h)) (marks_reached n (ticked block figure ∷ h)) y figure) answer_in
       ∙ is_sound n h block figure f

@@ -12,7 +12,6 @@ use Rattle.history.specs.Lent.{ran_on}
 use Rattle.history.specs.Marks.{noted_all}
 use Rattle.third_tests.specs.Answers.{none_lost_in, sound_in}
 use Rattle.third_tests.specs.Asks.{asks}
-use Rattle.marks.specs.declared.Mark.{Mark}
 use Rattle.third.specs.Unique.{Unique}
 
 one : (A : Type 0) (x r s : A) → r ≡ x → s ≡ x → r ≡ s
@@ -22,12 +21,12 @@ pub unique : Unique
 unique =
     record {
       marks_bytes_word_at = λ bytes at r s p q. p.0 ∙ sym q.0;
-      marks_noted = λ state ticked block p mark. one Mark (noted_mark state ticked block p mark);
+      marks_noted = λ state ticked block p mark. one ℕ (noted_mark state ticked block p mark);
       history_run = λ history ports r s p q. let c = p.0 ∙ sym q.0 in let m = p.1 ∙ sym q.1 in λ k. record { cells = c k; shown = m k };
       history_tick_from =
           λ from block figure r s p q.
           let c = p.0 ∙ sym q.0 in
-          let n : (x : List ℕ) → List Mark = λ x. noted_all x (ran_on from.cells (ticked block figure)) block from.shown in
+          let n : (x : List ℕ) → List ℕ = λ x. noted_all x (ran_on from.cells (ticked block figure)) block from.shown in
           let m : r.shown ≡ s.shown = p.1 ∙ ap n c ∙ sym q.1 in
           let a = p.2 ∙ sym q.2 in
           λ k. record { cells = c k; shown = m k; answer = a k };

@@ -8,7 +8,6 @@ use Rattle.verdict.specs.declared.Verdict.{Verdict}
 use Rattle.verdict.specs.declared.Verdict.TheVariants.{Held, NotAsked}
 use Rattle.statements.specs.History.{ticked}
 use Rattle.marks.specs.Mark.{noted_mark}
-use Rattle.marks.specs.declared.Mark.{Mark}
 use Rattle.history.specs.Decode.{calls_of}
 use Rattle.history.specs.Lent.{answer_of, cells_after, ran_on, cells_reached}
 use Rattle.history.specs.Marks.{noted_all, marks_reached}
@@ -24,7 +23,7 @@ One A promise = (r s : A) → promise r → promise s → r ≡ s
 
 pub record Unique : Type 0 where
   pub marks_bytes_word_at : (bytes : List ℕ) (at : ℕ) → One ℕ (λ r. (r ≡ word_at bytes at) × (r < 65536))
-  pub marks_noted : (state : ℕ) (ticked : Bool) (block : List ℕ) (p : ℕ) (mark : Mark) → One Mark (λ r. r ≡ noted_mark state ticked block p mark)
+  pub marks_noted : (state : ℕ) (ticked : Bool) (block : List ℕ) (p mark : ℕ) → One ℕ (λ r. r ≡ noted_mark state ticked block p mark)
   pub history_run : (history : List ℕ) (ports : ℕ) → One Reached (λ r. (r.cells ≡ cells_reached ports (calls_of history)) × (r.shown ≡ marks_reached ports (calls_of history)))
   pub history_tick_from : (from : Reached) (block : List ℕ) (figure : ℕ) → One Tried (λ r. (r.cells ≡ cells_after from.cells (ticked block figure)) × (r.shown ≡ noted_all r.cells (ran_on from.cells (ticked block figure)) block from.shown) × (r.answer ≡ answer_of (tick_on from.cells block figure).answer))
   pub third_tests_answers_none_lost : (first second : TickAnswer) → One Bool (λ r. r ≡ none_lost_in first second)

@@ -1,8 +1,8 @@
 -- What is proved of specs/Means.
 -- Assumes nothing.
 use Prim.Native.Nat.{ℕ, ◌+◌, ◌≤◌, ◌<◌}
-use mathlib.Core.Path.{◌≡◌, refl, sym, ◌∙◌, ap, ap₂}
-use mathlib.Core.Bool.{Bool, true, false, cond, not, ◌&&◌, ◌||◌, false≢true}
+use mathlib.Core.Path.{◌≡◌, refl, sym, ◌∙◌, ap₂}
+use mathlib.Core.Bool.{Bool, true, false, cond, not, ◌&&◌, ◌||◌}
 use mathlib.Core.List.{List}
 use native.Mathlib.Omega.{arith}
 use lib.Dec.{leb, ltb, eqb}
@@ -19,11 +19,9 @@ use Rattle.table.specs.declared.form.Table.{Table}
 use Rattle.interface.specs.Laws.{Are}
 use Rattle.statements.specs.History.{Shown, nothing, signature, both}
 use Rattle.marks.specs.Mark.{mark_of}
-use Rattle.marks.specs.declared.Mark.{Mark}
-use Rattle.marks.specs.declared.Mark.TheVariants.{InIdle}
 use Rattle.history.proofs.States.{test_cell, demand_cell}
 use Rattle.history.specs.declared.TickAnswer.{TickAnswer}
-use Rattle.third_tests.specs.Answers.{closed_in, none_lost_in, demands_in, shown_both, all_shown_in, sound_in}
+use Rattle.third_tests.specs.Answers.{closed_in, none_lost_in, demands_in, all_shown_in, sound_in}
 use Rattle.third_tests.specs.Means.{Holds}
 
 -- the answer names the closed ports
@@ -46,10 +44,10 @@ abbrev pub drawn_at : List ℕ → TickAnswer → ℕ → ℕ
 drawn_at l x p = cond (closed_in x p) (get_or l (104 + p) 0) 0
 
 -- only who has shown both is marked so
-mark_both : (i : Bool) (y : Shown) → shown_both (mark_of i y) ≡ true → y ≡ both
-mark_both true y e = absurd (false≢true e)
-mark_both false nothing e = absurd (false≢true e)
-mark_both false signature e = absurd (false≢true e)
+mark_both : (i : Bool) (y : Shown) → mark_of i y ≡ 3 → y ≡ both
+mark_both true y e = absurd (omega arith)
+mark_both false nothing e = absurd (omega arith)
+mark_both false signature e = absurd (omega arith)
 mark_both false both e = refl
 
 -- three tests of which the first fails
@@ -57,7 +55,7 @@ third_holds : (c i m : Bool) → c ≡ true → i ≡ false → ((not c || i) ||
 third_holds c i m e f g = simp (e, f) at g
 
 -- "no more than that figure": what is closed may draw all of it, so that a stricter test is refused here
-pub all_of_it : (l : List ℕ) (marks : List Mark) (x : TickAnswer) → x.number ≡ 0 → all_shown_in l marks x ≡ true → sound_in l marks x (demands_in l x) ≡ true
+pub all_of_it : (l marks : List ℕ) (x : TickAnswer) → x.number ≡ 0 → all_shown_in l marks x ≡ true → sound_in l marks x (demands_in l x) ≡ true
 unfolding sound_in
 all_of_it l marks x n s = simp (n, le-leb (demands_in l x) (demands_in l x) (omega arith), s)
 
@@ -66,14 +64,14 @@ module _ (t : Table) (l : List ℕ) (x : TickAnswer) (are : Are t l) (few : t.co
   unfolding demands_in
   sum_says = total_cong 48 _ _ (λ p h. ap₂ (λ (b : Bool) (d : ℕ). cond b d 0) (names p h) (sym (demand_cell t l are p h))) ∙ sum_is t few
 
-  module _ (marks : List Mark) (account : ℕ → Shown) (marked : (p : ℕ) → p < 48 → get_or marks p InIdle ≡ mark_of (is_idle (port_at t p).state) (account p)) where
+  module _ (marks : List ℕ) (account : ℕ → Shown) (marked : (p : ℕ) → p < 48 → get_or marks p 0 ≡ mark_of (is_idle (port_at t p).state) (account p)) where
     shown_says : all_shown_in l marks x ≡ true → (p : ℕ) → closed_at t p ≡ true → in_test (port_at t p).state ≡ false → account p ≡ both
     unfolding all_shown_in
     shown_says e p c i =
         let h : p < 48 = omega (arith, below t p c) in
         mark_both (is_idle (port_at t p).state) (account p)
-        (ap shown_both (sym (marked p h))
-        ∙ third_holds (closed_in x p) (eqb (get_or l (8 + p) 0) 8) _ (names p h ∙ c) (sym (test_cell t l are p h) ∙ i) (every_at 48 _ e p h))
+        (sym (marked p h)
+        ∙ eqb-true (get_or marks p 0) 3 (third_holds (closed_in x p) (eqb (get_or l (8 + p) 0) 8) _ (names p h ∙ c) (sym (test_cell t l are p h) ∙ i) (every_at 48 _ e p h)))
 
     pub sound_means : (figure : ℕ) → sound_in l marks x figure ≡ true → (x.number ≡ 0) × Holds t figure account
     unfolding sound_in

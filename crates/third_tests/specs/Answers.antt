@@ -1,11 +1,9 @@
 -- What is looked at after a tick: its number and masks, the cells that it left, and the marks.
 -- Assumes nothing.
-use Rattle.std.specs.Prelude.{ℕ, ◌+◌, Bool, true, false, cond, not, ◌&&◌, ◌||◌, List, eqb, leb, get_or}
+use Rattle.std.specs.Prelude.{ℕ, ◌+◌, Bool, cond, not, ◌&&◌, ◌||◌, List, eqb, leb, get_or}
 use Rattle.lists.specs.Bits.{bit}
 use Rattle.lists.specs.Every.{every}
 use Rattle.lists.specs.Total.{total}
-use Rattle.marks.specs.declared.Mark.{Mark}
-use Rattle.marks.specs.declared.Mark.TheVariants.{InIdle, Nothing, Signature, Both}
 use Rattle.history.specs.declared.TickAnswer.{TickAnswer}
 
 -- the place's bit is set in one of the two masks
@@ -20,17 +18,10 @@ none_lost_in x y = every 48 (λ p. not (closed_in x p) || closed_in y p)
 unfoldable pub demands_in : List ℕ → TickAnswer → ℕ
 demands_in l x = total 48 (λ p. cond (closed_in x p) (get_or l (104 + p) 0) 0)
 
--- the mark of who has shown a signature and given a class
-abbrev pub shown_both : Mark → Bool
-shown_both InIdle = false
-shown_both Nothing = false
-shown_both Signature = false
-shown_both Both = true
-
 -- "no port outside the forced test state is closed unless, since it last stood in IDLE, it showed a valid signature and gave a class"
-unfoldable pub all_shown_in : List ℕ → List Mark → TickAnswer → Bool
-all_shown_in l marks x = every 48 (λ p. (not (closed_in x p) || eqb (get_or l (8 + p) 0) 8) || shown_both (get_or marks p InIdle))
+unfoldable pub all_shown_in : List ℕ → List ℕ → TickAnswer → Bool
+all_shown_in l marks x = every 48 (λ p. (not (closed_in x p) || eqb (get_or l (8 + p) 0) 8) || eqb (get_or marks p 0) 3)
 
 -- all that is asked of one tick: "let the tick be accepted", which its number says
-unfoldable pub sound_in : List ℕ → List Mark → TickAnswer → ℕ → Bool
+unfoldable pub sound_in : List ℕ → List ℕ → TickAnswer → ℕ → Bool
 sound_in l marks x figure = (eqb x.number 0 && leb (demands_in l x) figure) && all_shown_in l marks x

@@ -4,7 +4,7 @@ ghost use Rattle.std.specs.Prelude.{◌≡◌, ◌<◌};
 ghost use Rattle.third_tests.specs.Answers.{closed_in, none_lost_in, demands_in, all_shown_in, sound_in};
 
 use history::{TickAnswer, Tried};
-use marks::Mark;
+use marks::BOTH;
 
 // The port's bit is set in one of the two masks.
 fn closed_in(answer: TickAnswer, p: usize) -> bool
@@ -35,10 +35,10 @@ fn demands_in(cells: &[u16; 728], answer: TickAnswer) -> u32
 }
 
 // No port outside the forced test state is closed unless it has shown both. The states stand from cell 8 on; the code of TEST_MODE is 8.
-fn all_shown(cells: &[u16; 728], shown: &[Mark; 48], answer: TickAnswer) -> bool
+fn all_shown(cells: &[u16; 728], shown: &[u8; 48], answer: TickAnswer) -> bool
     ensures { result ≡ all_shown_in cells.now shown.now answer }
 {
-    (0..48).all(|p| !closed_in(answer, p) | (cells[8 + p] == 8) | (shown[p] == Mark::Both))
+    (0..48).all(|p| !closed_in(answer, p) | (cells[8 + p] == 8) | (shown[p] == BOTH))
 }
 
 // One tick: it is accepted, which the number 0 says; the closed ports' demands add up to no more than its figure; and each has shown what

@@ -8,13 +8,12 @@ use lib.Dec.{eqb}
 use Rattle.lists.proofs.Tests.{choice_on}
 use Rattle.sample.specs.Sample.{sample_at}
 use Rattle.statements.specs.History.{shows_signature, gives_class, Shown, nothing, signature, both, seen}
-use Rattle.marks.specs.declared.Mark.TheVariants.{Nothing, Signature, Both}
 use Rattle.marks.specs.Mark.{seen_mark, noted_mark, mark_of}
 
 seen_mark_lem : (block : List ℕ) (p : ℕ) (x : Shown) → seen_mark block p (mark_of false x) ≡ mark_of false (seen (sample_at block (14 * p)) x)
 unfolding seen_mark seen
-seen_mark_lem block p nothing = choice_on (λ (z : Shown). cond (shows_signature (sample_at block (14 * p))) Signature Nothing ≡ mark_of false z) (shows_signature (sample_at block (14 * p))) signature nothing (λ e. simp e) (λ e. simp e)
-seen_mark_lem block p signature = choice_on (λ (z : Shown). cond (gives_class (sample_at block (14 * p))) Both Signature ≡ mark_of false z) (gives_class (sample_at block (14 * p))) both signature (λ e. simp e) (λ e. simp e)
+seen_mark_lem block p nothing = choice_on (λ (z : Shown). cond (shows_signature (sample_at block (14 * p))) 2 1 ≡ mark_of false z) (shows_signature (sample_at block (14 * p))) signature nothing (λ e. simp e) (λ e. simp e)
+seen_mark_lem block p signature = choice_on (λ (z : Shown). cond (gives_class (sample_at block (14 * p))) 3 2 ≡ mark_of false z) (gives_class (sample_at block (14 * p))) both signature (λ e. simp e) (λ e. simp e)
 seen_mark_lem block p both = refl
 
 -- the mark after a call, by whether the port stood in IDLE before it, stands there after it, and the call is a tick that runs
